@@ -1,0 +1,150 @@
+-- The two-pass reduction: an automaton on independent reachable rows, taken of the mirror and then of the mirror of that,
+-- is the minimal automaton.
+use mathlib.Core.Path.{_≡_, refl, sym, ap, ap₂, subst, _∙_}
+use mathlib.Core.Bool.{Bool, true, false, _&&_, and-comm, and-false}
+use mathlib.Core.Logic.{_⊎_, inl, inr}
+use mathlib.Core.List.{List, [], _∷_, _++_, append-nil, reverse, reverse-reverse}
+use Prim.Native.Nat.{ℕ, _<_}
+use native.Mathlib.Decide.{ℕ-discrete, decLt}
+use native.Mathlib.Omega.{arith}
+use lib.Dec.{eqb}
+use lib.ListN.{length, getD}
+use Rattle.automata.specs.Xor.{xorBelow, comb}
+use Rattle.automata.specs.Automaton.{Automaton, accepts}
+use Rattle.automata.specs.Word.{Over, Shortlex, NotAfter}
+use Rattle.automata.specs.Language.{Same}
+use Rattle.automata.specs.Minimal.{Minimal}
+use Rattle.automata.specs.Row.{acceptsFrom, rowAccepts, times, reach, Observable}
+use Rattle.automata.specs.Operations.{mirrorOf}
+use Rattle.automata.specs.Reduction.{rowOf, Spanning, Reduced}
+use Rattle.automata.proofs.Xor.{bool-cases, xor-cong, xor-none, xor-pick, xor-matrix}
+use Rattle.automata.proofs.Shortlex.{over-reverse, shortlex-irrefl, shortlex-trans}
+use Rattle.automata.proofs.Acceptance.{reach-append, from-nil, accepts-row, accepts-append}
+use Rattle.automata.proofs.Operations.{mirror-from, accepts-mirror}
+use Rattle.automata.proofs.Minimal.{same-coef, minimal-same}
+use Rattle.automata.proofs.ShortWords.{row-linear}
+use Rattle.automata.proofs.Certificate.{not-after-before, Reached, reached, Tableau, Certificate, certified}
+
+module _ (a : ℕ) (A B : Automaton) (ts : List (List ℕ)) (S : Spanning a A B ts) where
+  -- The row r of A is the row c of B in coordinates.
+  Coordinates : (ℕ → Bool) → (ℕ → Bool) → Type 0
+  Coordinates r c = (j : ℕ) → j < A .states → r j ≡ comb (length ts) c (rowOf A ts) j
+
+  start-coordinates : Coordinates (A .initial) (B .initial)
+  unfolding Coordinates
+  start-coordinates j h = go (decLt 0 (length ts)) ∙ xor-cong (length ts) (λ k p. ap (λ b. b && rowOf A ts k j) (sym (S .starts k p)))
+    where
+      go : Dec (0 < length ts) → A .initial j ≡ comb (length ts) (λ k. eqb k 0) (rowOf A ts) j
+      go (yes p) = sym (xor-pick (length ts) 0 p (λ k. rowOf A ts k j) ∙ ap (λ u. reach A (A .initial) u j) (S .first p))
+      go (no p) = S .empty (omega arith) j h ∙ sym (xor-none (length ts) (λ k q. absurd (p (omega arith))))
+
+  step-coordinates : (l : ℕ) → l < a → (r c : ℕ → Bool) → Coordinates r c → Coordinates (times A l r) (times B l c)
+  unfolding Coordinates
+  step-coordinates l hl r c h j hj =
+      xor-cong (A .states) (λ i p. ap (λ b. b && A .step l i j) (h i p))
+      ∙ sym (xor-matrix (length ts) (A .states) c (rowOf A ts) (λ i. A .step l i j))
+      ∙ xor-cong (length ts) (λ k p. ap (λ b. c k && b) (S .rows l k hl p j hj))
+      ∙ xor-matrix (length ts) (length ts) c (B .step l) (λ m. rowOf A ts m j)
+      ∙ xor-cong (length ts) (λ m p. ap (λ n. xorBelow n (λ k. c k && B .step l k m) && rowOf A ts m j) (sym (S .size)))
+
+  reach-coordinates : (w : List ℕ) → Over a w → (r c : ℕ → Bool) → Coordinates r c → Coordinates (reach A r w) (reach B c w)
+  reach-coordinates [] ow r c h = h
+  reach-coordinates (l ∷ w) ow r c h = reach-coordinates w (ow .1) (times A l r) (times B l c) (step-coordinates l (ow .0) r c h)
+
+  final-coordinates : (r c : ℕ → Bool) → Coordinates r c → rowAccepts A r [] ≡ rowAccepts B c []
+  unfolding Coordinates
+  final-coordinates r c h =
+      xor-cong (A .states) (λ j p. ap₂ _&&_ (h j p) (from-nil A j))
+      ∙ sym (xor-matrix (length ts) (A .states) c (rowOf A ts) (A .final))
+      ∙ xor-cong (length ts) (λ k p. ap (λ b. c k && b) (sym (S .ends k p) ∙ sym (from-nil B k)))
+      ∙ ap (λ n. xorBelow n (λ k. c k && acceptsFrom B [] k)) (sym (S .size))
+
+  -- The two accept the same words.
+  spanning-accepts : Same a (accepts A) (accepts B)
+  spanning-accepts w ow =
+      ap (accepts A) (sym (append-nil w)) ∙ accepts-append A w []
+      ∙ final-coordinates (reach A (A .initial) w) (reach B (B .initial) w) (reach-coordinates w ow (A .initial) (B .initial) start-coordinates)
+      ∙ sym (accepts-append B w []) ∙ ap (accepts B) (append-nil w)
+
+  -- Along the k-th word B reaches state k alone.
+  reaches-unit : (k : ℕ) → k < length ts → (i : ℕ) → i < length ts → reach B (B .initial) (getD ts k []) i ≡ eqb i k
+  unfolding Coordinates
+  reaches-unit k h i p =
+      same-coef (length ts) (rowOf A ts) (S .independent) (reach B (B .initial) (getD ts k [])) (λ i. eqb i k)
+      (λ j q. sym (reach-coordinates (getD ts k []) (S .over k h) (A .initial) (B .initial) start-coordinates j q) ∙ sym (xor-pick (length ts) k h (λ m. rowOf A ts m j))) i p
+
+-- In the mirror of B every row that is not zero accepts a word.
+mirror-observable : (a : ℕ) (A B : Automaton) (ts : List (List ℕ)) → Spanning a A B ts → Observable a (mirrorOf B)
+mirror-observable a A B ts S r h k p =
+    sym
+    (xor-cong (B .states) (λ i q. and-comm (r i) (acceptsFrom (mirrorOf B) (reverse (getD ts k [])) i)
+    ∙ ap (λ b. b && r i) (mirror-from B (reverse (getD ts k [])) i ∙ ap (λ u. reach B (B .initial) u i) (reverse-reverse (getD ts k [])) ∙ reaches-unit a A B ts S k kt i (rw (S .size) at q)))
+    ∙ xor-pick (B .states) k p r)
+    ∙ h (reverse (getD ts k [])) (over-reverse a (getD ts k []) (S .over k kt))
+  where
+    kt : k < length ts
+    kt = rw (S .size) at p
+
+module _ (a : ℕ) (A B : Automaton) (bs : List (List ℕ)) (R : Reduced a A B bs) where
+  pub tableau : Tableau a (accepts A) B bs
+  tableau = record {
+    over = R .spanning .over;
+    ordered = R .ordered;
+    first = R .spanning .first;
+    empty = λ e v ov. accepts-row A v ∙ xor-none (A .states) (λ i p. ap (λ b. b && acceptsFrom A v i) (R .spanning .empty e i p));
+    size = R .spanning .size;
+    starts = R .spanning .starts;
+    ends = λ k p. R .spanning .ends k p ∙ xor-cong (A .states) (λ j q. ap (λ b. rowOf A bs k j && b) (sym (from-nil A j))) ∙ sym (accepts-append A (getD bs k []) []) ∙ ap (accepts A) (append-nil (getD bs k []));
+    rows = λ l k hl hk v ov.
+        accepts-append A (getD bs k [] ++ (l ∷ [])) v
+        ∙ row-linear A (reach A (A .initial) (getD bs k [] ++ (l ∷ []))) (length bs) (B .step l k) (rowOf A bs) (λ j p. ap (λ r. r j) (reach-append A (A .initial) (getD bs k []) (l ∷ [])) ∙ R .spanning .rows l k hl hk j p) v
+        ∙ xor-cong (length bs) (λ i p. ap (λ b. B .step l k i && b) (sym (accepts-append A (getD bs i []) v)));
+    causal = R .causal;
+  }
+
+  -- The word w is accepted as an xor of words of bs that are not later.
+  at-end : (w : List ℕ) (s : Reached a (accepts A) bs w) → accepts A w ≡ xorBelow (length bs) (λ j. s .coef j && accepts A (getD bs j []))
+  at-end w s = ap (accepts A) (sym (append-nil w)) ∙ s .sum [] tt ∙ xor-cong (length bs) (λ j p. ap (λ u. s .coef j && accepts A u) (append-nil (getD bs j [])))
+
+  -- No word of bs accepted: no word accepted.
+  pub none-accepted : ((k : ℕ) → k < length bs → accepts A (getD bs k []) ≡ false) → (w : List ℕ) → Over a w → accepts A w ≡ false
+  none-accepted h w ow =
+      let s = reached a (accepts A) B bs tableau w ow in
+      at-end w s ∙ xor-none (length bs) (λ j p. ap (λ b. s .coef j && b) (h j p) ∙ and-false (s .coef j))
+
+  -- The first word of bs that is accepted is the first word accepted.
+  pub first-accepted : (k : ℕ) → k < length bs → ((i : ℕ) → i < k → accepts A (getD bs i []) ≡ false) → (u : List ℕ) → Over a u → Shortlex u (getD bs k []) → accepts A u ≡ false
+  first-accepted k hk h u ou e = go (reached a (accepts A) B bs tableau u ou)
+    where
+      before : (j : ℕ) → j < length bs → NotAfter (getD bs j []) u → Dec (j < k) → Dec (j ≡ k) → j < k
+      before j p n (yes q) r = q
+      before j p n (no q) (yes r) = absurd (shortlex-irrefl (getD bs k []) (subst (λ i. Shortlex (getD bs i []) (getD bs k [])) r (not-after-before (getD bs j []) u (getD bs k []) n e)))
+      before j p n (no q) (no r) = absurd (shortlex-irrefl (getD bs j []) (shortlex-trans (getD bs j []) (getD bs k []) (getD bs j []) (not-after-before (getD bs j []) u (getD bs k []) n e) (R .ordered k j (omega (arith, r)) p)))
+
+      go : Reached a (accepts A) bs u → accepts A u ≡ false
+      go s = at-end u s ∙ xor-none (length bs) (λ j p. part j p (bool-cases (s .coef j)))
+        where
+          part : (j : ℕ) → j < length bs → (s .coef j ≡ true) ⊎ (s .coef j ≡ false) → s .coef j && accepts A (getD bs j []) ≡ false
+          part j p (inl t) = ap (λ b. s .coef j && b) (h j (before j p (s .inside j p t) (decLt j k) (ℕ-discrete j k))) ∙ and-false (s .coef j)
+          part j p (inr t) = ap (λ b. b && accepts A (getD bs j [])) t
+
+module _ (a : ℕ) (A B : Automaton) (bs : List (List ℕ)) (O : Observable a A) (R : Reduced a A B bs) where
+  certificate : Certificate a (accepts A) B bs
+  certificate = record {
+    tableau = tableau a A B bs R;
+    independent = λ c z. R .spanning .independent c (O (comb (length bs) c (rowOf A bs)) (λ v ov.
+        row-linear A (comb (length bs) c (rowOf A bs)) (length bs) c (rowOf A bs) (λ j p. refl) v
+        ∙ xor-cong (length bs) (λ i p. ap (λ b. c i && b) (sym (accepts-append A (getD bs i []) v)))
+        ∙ z v ov));
+  }
+
+  -- Reducing an observable automaton gives the minimal one.
+  reduced-minimal : Minimal a (accepts A) B bs
+  reduced-minimal = certified a (accepts A) B bs certificate
+
+-- Reducing the mirror, and then the mirror of that, gives the minimal automaton.
+pub two-pass : (a : ℕ) (A B C : Automaton) (ts bs : List (List ℕ)) → Spanning a (mirrorOf A) B ts → Reduced a (mirrorOf B) C bs → Minimal a (accepts A) C bs
+two-pass a A B C ts bs S R =
+    minimal-same a (accepts (mirrorOf B)) (accepts A) C bs
+    (λ w ow. accepts-mirror B w ∙ sym (spanning-accepts a (mirrorOf A) B ts S (reverse w) (over-reverse a w ow)) ∙ accepts-mirror A (reverse w) ∙ ap (accepts A) (reverse-reverse w))
+    (reduced-minimal a (mirrorOf B) C bs (mirror-observable a (mirrorOf A) B ts S) R)

@@ -1,0 +1,40 @@
+-- Automata for the operations on languages (01: sum, meet, complement, mirror).
+--   sumOf A B          the two side by side, the direct sum: accepts the symmetric difference
+--   meetOf A B         the product automaton on pairs of states: accepts the intersection
+--   complementOf A     A beside one state that accepts every word
+--   mirrorOf A         the transpose, initial and final states exchanged: accepts the reversal
+use mathlib.Core.Bool.{true, false, _&&_, cond}
+use Prim.Native.Nat.{ℕ, _+_, _-_, _*_, _/_, _%_}
+use lib.Dec.{ltb}
+use Rattle.automata.specs.Automaton.{Automaton}
+
+-- f below n, and g from n on.
+abbrev pub joined : {X : Type 0} → ℕ → (ℕ → X) → (ℕ → X) → ℕ → X
+joined n f g i = cond (ltb i n) (f i) (g (i - n))
+
+abbrev pub sumOf : Automaton → Automaton → Automaton
+sumOf A B = record {
+  states = A .states + B .states;
+  initial = joined (A .states) (A .initial) (B .initial);
+  final = joined (A .states) (A .final) (B .final);
+  step = λ l. joined (A .states) (λ i. joined (A .states) (A .step l i) (λ j. false)) (λ i. joined (A .states) (λ j. false) (B .step l i));
+}
+
+-- One state that accepts every word.
+abbrev pub allWords : Automaton
+allWords = record { states = 1; initial = λ i. true; final = λ i. true; step = λ l i j. true }
+
+abbrev pub complementOf : Automaton → Automaton
+complementOf A = sumOf A allWords
+
+abbrev pub mirrorOf : Automaton → Automaton
+mirrorOf A = record { states = A .states; initial = A .final; final = A .initial; step = λ l i j. A .step l j i }
+
+-- A pair of states (i, j) is the state i * m + j, with m the second automaton's states.
+abbrev pub meetOf : Automaton → Automaton → Automaton
+meetOf A B = record {
+  states = A .states * B .states;
+  initial = λ k. A .initial (k / B .states) && B .initial (k % B .states);
+  final = λ k. A .final (k / B .states) && B .final (k % B .states);
+  step = λ l k h. A .step l (k / B .states) (h / B .states) && B .step l (k % B .states) (h % B .states);
+}
