@@ -29,7 +29,7 @@ digit-same (suc zero) (suc zero) p q h = refl
 digit-same (suc zero) (suc (suc e)) p q h = absurd (omega arith)
 digit-same (suc (suc d)) e p q h = absurd (omega arith)
 
-half-lt : (m n : ℕ) → m < 2 ^ suc n → m / 2 < 2 ^ n
+pub half-lt : (m n : ℕ) → m < 2 ^ suc n → m / 2 < 2 ^ n
 half-lt m n h = div-lt-iff-lt-mul (zero-lt-suc 1) .1 (subst (λ x. m < x) (pow-suc 2 n) h)
 
 -- Numbers of n bits with the same bits are the same.

@@ -1,0 +1,5 @@
+pub mod BitLaws
+pub mod LowestBit
+pub mod ParityLaws
+pub mod TableLaws
+pub mod ProductLaws

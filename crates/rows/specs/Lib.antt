@@ -1,0 +1,5 @@
+-- The definitions that the contracts on rows cite.
+pub mod Row
+pub mod Table
+pub mod Product
+pub mod Machine
