@@ -9,6 +9,7 @@ use lib.Dec.{T, ltb, lt→ltb}
 use lib.Arith.{le→nltb, digits-div, digits-mod}
 use Rattle.automata.specs.Xor.{_⊕_, xorBelow}
 use Rattle.automata.specs.Automaton.{Automaton, accepts}
+use Rattle.automata.specs.Language.{symmetricDifference, intersection, complement, reversal}
 use Rattle.automata.specs.Row.{acceptsFrom, reach}
 use Rattle.automata.specs.Operations.{joined, sumOf, allWords, complementOf, mirrorOf, meetOf}
 use Rattle.automata.proofs.Xor.{xor-cong, xor-none, xor-false, xor-append, xor-comm, xor-scale, xor-scale-right, and-swap}
@@ -61,7 +62,7 @@ module _ (A B : Automaton) where
       ∙ sym (from-cons B l w i)
 
   -- The sum accepts what just one of the two accepts.
-  pub accepts-sum : (w : List ℕ) → accepts (sumOf A B) w ≡ accepts A w ⊕ accepts B w
+  pub accepts-sum : (w : List ℕ) → accepts (sumOf A B) w ≡ symmetricDifference (accepts A) (accepts B) w
   accepts-sum w =
       accepts-row (sumOf A B) w
       ∙ xor-append (A .states) (B .states) (λ i. sumOf A B .initial i && acceptsFrom (sumOf A B) w i)
@@ -78,7 +79,8 @@ accepts-all-from (l ∷ w) i = from-cons allWords l w i ∙ accepts-all-from w 0
 accepts-all : (w : List ℕ) → accepts allWords w ≡ true
 accepts-all w = accepts-row allWords w ∙ accepts-all-from w 0
 
-pub accepts-complement : (A : Automaton) (w : List ℕ) → accepts (complementOf A) w ≡ not (accepts A w)
+-- The complement accepts what A does not.
+pub accepts-complement : (A : Automaton) (w : List ℕ) → accepts (complementOf A) w ≡ complement (accepts A) w
 accepts-complement A w = accepts-sum A allWords w ∙ ap (λ b. accepts A w ⊕ b) (accepts-all w) ∙ xor-comm (accepts A w) true
 
 -- ---- mirror
@@ -92,7 +94,7 @@ mirror-from A (l ∷ w) i =
     ∙ ap (λ u. reach A (A .initial) u i) (sym (reverse-cons l w))
 
 -- The mirror accepts the reversed words.
-pub accepts-mirror : (A : Automaton) (w : List ℕ) → accepts (mirrorOf A) w ≡ accepts A (reverse w)
+pub accepts-mirror : (A : Automaton) (w : List ℕ) → accepts (mirrorOf A) w ≡ reversal (accepts A) w
 accepts-mirror A w =
     accepts-row (mirrorOf A) w
     ∙ xor-cong (A .states) (λ i p. and-comm (A .final i) (acceptsFrom (mirrorOf A) w i) ∙ ap₂ _&&_ (mirror-from A w i) (sym (from-nil A i)))
@@ -131,7 +133,7 @@ module _ (A B : Automaton) where
       ∙ ap₂ _&&_ (sym (from-cons A l w i)) (sym (from-cons B l w j))
 
   -- The meet accepts what both accept.
-  pub accepts-meet : (w : List ℕ) → accepts (meetOf A B) w ≡ accepts A w && accepts B w
+  pub accepts-meet : (w : List ℕ) → accepts (meetOf A B) w ≡ intersection (accepts A) (accepts B) w
   accepts-meet w =
       accepts-row (meetOf A B) w
       ∙ xor-grid (A .states) (B .states) (λ k. meetOf A B .initial k && acceptsFrom (meetOf A B) w k)
