@@ -1,6 +1,7 @@
 -- The automaton that a machine and its table hold.
 --   automatonIn t m     its states and bits: row i of block l is the row of letter l and state i
 --   Valid t m           sizes are within bounds, and no bit stands at `states` or above
+-- Both are stated on numbers first: n states, initial row i, final column f, a letters.
 use mathlib.Core.Path.{_≡_}
 use mathlib.Core.List.{List}
 use Prim.Native.Nat.{ℕ, _^_, _<_, _≤_}
@@ -9,20 +10,21 @@ use Rattle.automata.specs.Automaton.{Automaton}
 use Rattle.automata.specs.Mask.{bitOf}
 use Rattle.rows.specs.declared.Machine.{Machine}
 use Rattle.rows.specs.Row.{width, mask}
-use Rattle.rows.specs.Table.{blocks, size, at}
+use Rattle.rows.specs.Table.{blocks, size, at, row}
+
+abbrev pub auto : List ℕ → ℕ → ℕ → ℕ → Automaton
+auto t n i f = record { states = n; initial = bitOf i; final = bitOf f; step = row t }
+
+pub record Bounded (a : ℕ) (t : List ℕ) (n i f : ℕ) : Type 0 where
+  pub states : n ≤ width
+  pub letters : a ≤ blocks
+  pub size : length t ≡ size
+  pub initial : i < 2 ^ n
+  pub finals : f < 2 ^ n
+  pub rows : (l k : ℕ) → l < a → k < n → at t l k < 2 ^ n
 
 abbrev pub automatonIn : List ℕ → Machine → Automaton
-automatonIn t m = record {
-  states = m .states;
-  initial = bitOf (mask (m .initial));
-  final = bitOf (mask (m .finals));
-  step = λ l i. bitOf (at t l i);
-}
+automatonIn t m = auto t (m .states) (mask (m .initial)) (mask (m .finals))
 
-pub record Valid (t : List ℕ) (m : Machine) : Type 0 where
-  pub states : m .states ≤ width
-  pub letters : m .letters ≤ blocks
-  pub size : length t ≡ size
-  pub initial : mask (m .initial) < 2 ^ m .states
-  pub finals : mask (m .finals) < 2 ^ m .states
-  pub rows : (l i : ℕ) → l < m .letters → i < m .states → at t l i < 2 ^ m .states
+abbrev pub Valid : List ℕ → Machine → Type 0
+Valid t m = Bounded (m .letters) t (m .states) (mask (m .initial)) (mask (m .finals))
