@@ -1,7 +1,7 @@
 -- Acceptance is linear: rows of states, a row times a letter's matrix, and what is accepted from a row.
-use mathlib.Core.Path.{_≡_, refl, ap, _∙_}
+use mathlib.Core.Path.{_≡_, refl, sym, ap, _∙_}
 use mathlib.Core.Bool.{Bool, false, _&&_, cond, and-true}
-use mathlib.Core.List.{List, [], _∷_, _++_}
+use mathlib.Core.List.{List, [], _∷_, _++_, append-nil}
 use Prim.Native.Nat.{ℕ, _<_, _≤_}
 use native.Mathlib.Omega.{arith}
 use native.Mathlib.Decide.{decLe}
@@ -39,6 +39,17 @@ row-append A r (l ∷ u) v = row-cons A r l (u ++ v) ∙ row-append A (times A l
 
 pub accepts-append : (A : Automaton) (u v : List ℕ) → accepts A (u ++ v) ≡ rowAccepts A (reach A (A .initial) u) v
 accepts-append A u v = accepts-row A (u ++ v) ∙ row-append A (A .initial) u v
+
+-- A word is accepted by the row that it reaches.
+pub accepts-reach : (A : Automaton) (w : List ℕ) → accepts A w ≡ xorBelow (A .states) (λ j. reach A (A .initial) w j && A .final j)
+accepts-reach A w =
+    ap (accepts A) (sym (append-nil w)) ∙ accepts-append A w []
+    ∙ xor-cong (A .states) (λ j p. ap (λ b. reach A (A .initial) w j && b) (from-nil A j))
+
+-- Only the states of a row are read.
+pub reach-cong : (A : Automaton) (r s : ℕ → Bool) → ((i : ℕ) → i < A .states → r i ≡ s i) → (w : List ℕ) (j : ℕ) → j < A .states → reach A r w j ≡ reach A s w j
+reach-cong A r s h [] j p = h j p
+reach-cong A r s h (l ∷ w) j p = reach-cong A (times A l r) (times A l s) (λ i q. xor-cong (A .states) (λ x g. ap (λ b. b && A .step l x i) (h x g))) w j p
 
 -- Rows that cancel below the states accept nothing together.
 rows-cancel : (A : Automaton) (m : ℕ) (c : ℕ → Bool) (f : ℕ → ℕ → Bool) → ((j : ℕ) → j < A .states → comb m c f j ≡ false)

@@ -1,6 +1,6 @@
 -- Automata for the sum, the meet, the complement and the mirror of languages.
 use mathlib.Core.Path.{_≡_, refl, sym, ap, ap₂, _∙_}
-use mathlib.Core.Bool.{Bool, true, false, not, _&&_, cond, and-comm}
+use mathlib.Core.Bool.{Bool, true, false, not, _&&_, cond, and-comm, and-false}
 use mathlib.Core.List.{List, [], _∷_, append-nil, reverse, reverse-cons}
 use Prim.Native.Nat.{ℕ, zero, suc, _+_, _-_, _*_, _/_, _%_, _<_}
 use native.Mathlib.Nat.{zero-mul, suc-mul}
@@ -10,10 +10,10 @@ use lib.Arith.{le→nltb, digits-div, digits-mod}
 use Rattle.automata.specs.Xor.{_⊕_, xorBelow}
 use Rattle.automata.specs.Automaton.{Automaton, accepts}
 use Rattle.automata.specs.Language.{symmetricDifference, intersection, complement, reversal}
-use Rattle.automata.specs.Row.{acceptsFrom, reach}
+use Rattle.automata.specs.Row.{acceptsFrom, times, reach}
 use Rattle.automata.specs.Operations.{joined, sumOf, allWords, complementOf, mirrorOf, meetOf}
 use Rattle.automata.proofs.Xor.{xor-cong, xor-none, xor-false, xor-append, xor-comm, xor-scale, xor-scale-right, and-swap}
-use Rattle.automata.proofs.Acceptance.{from-nil, from-cons, accepts-row, accepts-append, reach-append}
+use Rattle.automata.proofs.Acceptance.{from-nil, from-cons, accepts-row, accepts-append, reach-append, reach-cong}
 
 -- ---- two families end to end
 
@@ -60,6 +60,22 @@ module _ (A B : Automaton) where
       (xor-none (A .states) (λ j p. ap (λ b. b && acceptsFrom (sumOf A B) w j) (ap (λ r. r j) (step-high l i) ∙ joined-low (A .states) (λ j. false) (B .step l i) j p)))
       (xor-cong (B .states) (λ j p. ap₂ _&&_ (ap (λ r. r (A .states + j)) (step-high l i) ∙ joined-high (A .states) (λ j. false) (B .step l i) j) (sum-high w j)))
       ∙ sym (from-cons B l w i)
+
+  times-low : (l : ℕ) (r : ℕ → Bool) (j : ℕ) → j < A .states → times (sumOf A B) l r j ≡ times A l r j
+  times-low l r j h =
+      xor-append (A .states) (B .states) (λ i. r i && sumOf A B .step l i j)
+      ∙ ap₂ _⊕_
+      (xor-cong (A .states) (λ i p. ap (λ b. r i && b) (ap (λ q. q j) (step-low l i p) ∙ joined-low (A .states) (A .step l i) (λ j. false) j h)))
+      (xor-none (B .states) (λ i p. ap (λ b. r (A .states + i) && b) (ap (λ q. q j) (step-high l i) ∙ joined-low (A .states) (λ j. false) (B .step l i) j h) ∙ and-false (r (A .states + i))))
+      ∙ xor-false (times A l r j)
+
+  -- On A's states the sum reaches what A reaches.
+  pub reach-low : (r : ℕ → Bool) (w : List ℕ) (j : ℕ) → j < A .states → reach (sumOf A B) r w j ≡ reach A r w j
+  reach-low r [] j h = refl
+  reach-low r (l ∷ w) j h = reach-low (times (sumOf A B) l r) w j h ∙ reach-cong A (times (sumOf A B) l r) (times A l r) (λ i p. times-low l r i p) w j h
+
+  pub initial-low : (i : ℕ) → i < A .states → sumOf A B .initial i ≡ A .initial i
+  initial-low i h = joined-low (A .states) (A .initial) (B .initial) i h
 
   -- The sum accepts what just one of the two accepts.
   pub accepts-sum : (w : List ℕ) → accepts (sumOf A B) w ≡ symmetricDifference (accepts A) (accepts B) w

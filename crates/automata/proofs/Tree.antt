@@ -10,9 +10,10 @@ use native.Mathlib.Decide.{ℕ-discrete}
 use native.Mathlib.Omega.{arith}
 use lib.Dec.{eqb}
 use lib.ListN.{length, getD}
-use Rattle.automata.specs.Xor.{comb}
+use Rattle.automata.specs.Xor.{xorBelow, comb}
 use Rattle.automata.specs.Automaton.{Automaton}
 use Rattle.automata.specs.Word.{Over, Shortlex, NotAfter}
+use Rattle.automata.specs.Minimal.{SameBits}
 use Rattle.automata.specs.Row.{times, reach}
 use Rattle.automata.specs.Reduction.{rowOf, Reduced}
 use Rattle.automata.specs.Tree.{Done, wordUp, wordTo, wordsTo, Tree}
@@ -74,6 +75,10 @@ module _ (a : ℕ) (A B : Automaton) (d : ℕ) (R : ℕ → ℕ → Bool) (from 
           ∙ xor-cong (A .states) (λ i hi. ap (λ b. b && A .step (by r) i j) (ih (omega (arith, T .parent r (omega arith) h)) (omega (arith, T .parent r (omega arith) h)) i hi))
           ∙ sym (T .child r (omega arith) h j hj)
 
+  -- The word of a row reaches the row.
+  pub tree-row : (r : ℕ) → r < d → (j : ℕ) → j < A .states → reach A (A .initial) (wordTo from by r) j ≡ R r j
+  tree-row r h = word-row (suc r) r (omega arith) h
+
   -- A pair that comes first has the earlier word.
   pair-earlier : (k l i x : ℕ) → ((i < k) → Shortlex (wordTo from by i) (wordTo from by k)) → Done k l i x → Shortlex (wordTo from by i ++ (x ∷ [])) (wordTo from by k ++ (l ∷ []))
   pair-earlier k l i x h (inl p) = shortlex-snoc (wordTo from by i) (wordTo from by k) x l (h p)
@@ -130,3 +135,26 @@ module _ (a : ℕ) (A B : Automaton) (d : ℕ) (R : ℕ → ℕ → Bool) (from 
         (subst (λ u. NotAfter (wordTo from by r) (u ++ (l ∷ []))) (sym (words-at from by d k (below k hk)))
         (not-after l k r (below k hk) (below r hr) (T .early l k r hl (below k hk) (below r hr) e) (ℕ-discrete r 0) (ℕ-discrete (by r) l)));
   }
+
+-- The same bits where bits are read: a tree over one automaton is one over the other.
+pub tree-bits : (a : ℕ) (A A′ B : Automaton) (d : ℕ) (R : ℕ → ℕ → Bool) (from by : ℕ → ℕ) → SameBits a A′ A → Tree a A′ B d R from by → Tree a A B d R from by
+tree-bits a A A′ B d R from by e T = record {
+  root = λ h j g. T .root h j (back j g) ∙ e .initial j (back j g);
+  empty = λ z j g. sym (e .initial j (back j g)) ∙ T .empty z j (back j g);
+  parent = T .parent;
+  letter = T .letter;
+  child = λ r p h j g. T .child r p h j (back j g) ∙ same (by r) (T .letter r p h) (R (from r)) j (back j g);
+  order = T .order;
+  independent = λ c z. T .independent c (λ j g. z j (subst (λ n. j < n) (e .states) g));
+  size = T .size;
+  starts = T .starts;
+  ends = λ k h. T .ends k h ∙ xor-cong (A′ .states) (λ j g. ap (λ b. R k j && b) (e .final j g)) ∙ ap (λ n. xorBelow n (λ j. R k j && A .final j)) (e .states);
+  rows = λ l k hl hk j g. sym (same l hl (R k) j (back j g)) ∙ T .rows l k hl hk j (back j g);
+  early = T .early;
+}
+  where
+    back : (j : ℕ) → j < A .states → j < A′ .states
+    back j g = subst (λ n. j < n) (sym (e .states)) g
+
+    same : (l : ℕ) → l < a → (r : ℕ → Bool) (j : ℕ) → j < A′ .states → times A′ l r j ≡ times A l r j
+    same l h r j g = xor-cong (A′ .states) (λ x p. ap (λ b. r x && b) (e .step l x j h p g)) ∙ ap (λ n. xorBelow n (λ x. r x && A .step l x j)) (e .states)
