@@ -2,12 +2,12 @@
 // Table: the crates above use these functions alone, and their contracts name no width but `width`.
 ghost use mathlib.Core.Path.{_≡_};
 ghost use mathlib.Core.Bool.{Bool, true, false, _&&_, cond};
-ghost use Prim.Native.Nat.{ℕ, _*_, _^_, _≤_, _<_};
+ghost use Prim.Native.Nat.{ℕ, _*_, _/_, _^_, _≤_, _<_};
 ghost use lib.Bits.{bitXor, bitAnd};
 ghost use lib.Dec.{eqb, ltb};
 ghost use Rattle.automata.specs.Xor.{xorBelow};
 ghost use Rattle.automata.specs.Mask.{bitOf};
-ghost use Rattle.rows.specs.Row.{width, mask};
+ghost use Rattle.rows.specs.Row.{width, levels, mask, stripes};
 ghost use Rattle.rows.specs.Table.{blocks, at, stored};
 ghost use Rattle.rows.specs.Product.{product};
 
@@ -88,6 +88,30 @@ pub fn moved(x: Row, k: usize) -> Row
     ensures { λ r. ⌜ mask r ≡ mask x * 2 ^ k ⌝ }
 {
     Row { bits: x.bits << k }
+}
+
+// x moved down by k bits: those that leave the row are lost.
+pub fn lowered(x: Row, k: usize) -> Row
+    requires { ⌜ k < width ⌝ }
+    ensures { λ r. ⌜ mask r ≡ mask x / 2 ^ k ⌝ }
+{
+    Row { bits: x.bits >> k }
+}
+
+// The bits at the places whose bit b is 0.
+pub fn stripes(b: usize) -> Row
+    requires { ⌜ b < levels ⌝ }
+    ensures { λ r. ⌜ mask r ≡ stripes b ⌝ }
+{
+    let s: [u64; 6] = [
+        0x5555555555555555,
+        0x3333333333333333,
+        0x0F0F0F0F0F0F0F0F,
+        0x00FF00FF00FF00FF,
+        0x0000FFFF0000FFFF,
+        0x00000000FFFFFFFF,
+    ];
+    Row { bits: s[b] }
 }
 
 // Where the lowest bit of x stands.

@@ -1,0 +1,5 @@
+pub mod Complete
+pub mod SumLaws
+pub mod TraceLaws
+pub mod HuntLaws
+pub mod JudgeLaws

@@ -1,0 +1,70 @@
+-- `try_rows`: the rows below k are done, and no row found is accepted; there are never more rows than bits.
+use mathlib.Core.Path.{_≡_}
+use Prim.Native.Nat.{_-_, _≤_, _<_}
+use native.Mathlib.Omega.{arith}
+use borrow.Author.Needs.{needs}
+use Rattle.rows.specs.Row.{width, mask}
+use Rattle.reduction.proofs.TableSearch.{count-bound}
+use Rattle.comparison.specs.Hunt.{Hunting}
+use Rattle.comparison.proofs.try_rows.Statement.{statement}
+use Rattle.comparison.proofs.try_rows.Tie as tie
+
+abbrev Inv-loop : tie.InvT-loop
+Inv-loop t m b₀ r₀ k₀ b r k = (k ≤ r .count) × Hunting (m .letters) t (m .states) (mask (m .initial)) (mask (m .finals)) b (r .count) k 0 (mask (r .pivots))
+
+abbrev μ-loop : tie.MeasureT-loop
+μ-loop t m b₀ r₀ k₀ b r k = width - k
+
+below : (c : tie.At-loop Inv-loop μ-loop) → c .loop .r .count ≤ width
+below c =
+    let s = c .before in
+    let v = c .loop in
+    omega (arith, count-bound (s .args .m .states) (v .r .count) (mask (v .r .pivots)) (v .b) (v .inv .1 .search .basis), s .pre .0 .states)
+
+loop-holds : tie.Need-loop-holds Inv-loop μ-loop
+loop-holds c = (omega arith, c .pre .1)
+
+try-row-requires : tie.Need-try-row-requires Inv-loop μ-loop
+try-row-requires c κs = (c .before .before .before .before .pre .0, c .before .before .before .loop .inv .1, omega arith)
+
+enum-known-h : tie.Need-enum-known-h Inv-loop μ-loop
+enum-known-h c = search needs
+
+enum-told : tie.Need-enum-told Inv-loop μ-loop
+enum-told c = search needs
+
+returns : tie.Need-returns Inv-loop μ-loop
+returns c = rw (c .enum-told .given .1) (rw (c .enum-told .given .1) at (c .before .before .try-row .ensures))
+
+add-k : tie.Need-add-k Inv-loop μ-loop
+add-k c = omega (arith, below (c .before .before .before .before .before .before .before))
+
+loop-less : tie.Need-loop-less Inv-loop μ-loop
+loop-less c = omega (arith, below (c .before .before .before .before .before .before .before))
+
+loop-again : tie.Need-loop-again Inv-loop μ-loop
+loop-again c =
+    let e = rw (c .before .h .given .1) at (c .before .before .before .try-row .ensures) in
+    (omega (arith, e .1), e .0)
+
+returns-2 : tie.Need-returns-2 Inv-loop μ-loop
+returns-2 c =
+    let v = c .before .before .loop in
+    let e : v .k ≡ v .r .count = omega arith in
+    rw e at (v .inv .1)
+
+pub try-rows-spec : {M : Type 1} → statement M
+try-rows-spec =
+    tie.close
+    (tie.spec
+    Inv-loop
+    μ-loop
+    loop-holds
+    try-row-requires
+    enum-known-h
+    enum-told
+    returns
+    add-k
+    loop-less
+    loop-again
+    returns-2)

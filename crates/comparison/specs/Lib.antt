@@ -1,0 +1,3 @@
+-- The definitions that the contracts of the comparison cite.
+pub mod Hunt
+pub mod Sum

@@ -1,0 +1,3 @@
+pub mod EchelonLaws
+pub mod FoldLaws
+pub mod PlaceLaws

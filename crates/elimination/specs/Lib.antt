@@ -1,0 +1,3 @@
+-- The definitions that the contracts of the elimination cite.
+pub mod Echelon
+pub mod Place

@@ -1,0 +1,35 @@
+-- `minimal_form`: the table that was read holds the record's automaton.
+use mathlib.Core.Path.{refl, subst, _∙_}
+use denote.Ref.{now}
+use Rattle.automata.proofs.Minimal.{bits-language}
+use Rattle.rows.specs.Row.{mask}
+use Rattle.rows.specs.Machine.{automatonIn}
+use Rattle.reduction.specs.Tables.{Minimises}
+use Rattle.reduction.proofs.MinimiseLaws.{minimises-same}
+use Rattle.record.specs.Record.{lettersOf, automatonOf}
+use Rattle.record.proofs.Held.{bits-held}
+use borrow.Author.Needs.{needs}
+use Rattle.minimal.proofs.minimal_form.Statement.{statement}
+use Rattle.minimal.proofs.minimal_form.Tie as tie
+
+read-requires : tie.Need-read-requires
+read-requires c κs = search needs
+
+minimise-requires : tie.Need-minimise-requires
+minimise-requires c κs = (c .before .before .before .before .before .read .ensures .valid, refl, refl, refl, c .before .before .before .before .before .before .before .before .pre .1)
+
+returns : tie.Need-returns
+returns c =
+    let bs = now (c .before .before .before .before .before .before .before .before .before .args .bytes) in
+    let t = c .before .before .before .before .before .before .read .last .1 .0 in
+    let m = c .before .before .before .before .before .before .read .result in
+    let h = c .before .before .before .before .before .before .read .ensures in
+    let r = c .minimise .result in
+    let e = c .minimise .ensures in (
+      e .0 ∙ h .letters,
+      minimises-same (lettersOf bs) (automatonIn t m) (automatonOf bs) (c .minimise .last .1 .1 .1 .1 .1 .0) (r .states) (mask (r .initial)) (mask (r .finals)) (bits-language (lettersOf bs) (automatonIn t m) (automatonOf bs) (bits-held bs t m h))
+          (subst (λ a. Minimises a (automatonIn t m) (c .minimise .last .1 .1 .1 .1 .1 .0) (r .states) (mask (r .initial)) (mask (r .finals))) (h .letters) (e .1)),
+    )
+
+pub minimal-form-spec : {M : Type 1} → statement M
+minimal-form-spec = tie.close (tie.spec read-requires minimise-requires returns)

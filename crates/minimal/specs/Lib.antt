@@ -1,0 +1,2 @@
+-- The definitions that the contracts of the minimal service cite.
+pub mod Minimal

@@ -1,0 +1,89 @@
+// The minimal record of a record: from bytes to bytes.
+ghost use mathlib.Core.Path.{_≡_};
+ghost use mathlib.Core.List.{List};
+ghost use Prim.Native.Nat.{ℕ, _≤_};
+ghost use lib.ListN.{length, take};
+ghost use Rattle.automata.specs.Automaton.{Automaton, accepts};
+ghost use Rattle.automata.specs.Language.{Same};
+ghost use Rattle.automata.specs.Dimension.{IsDimension};
+ghost use Rattle.automata.specs.MinimalOf.{dimensionOf};
+ghost use Rattle.rows.specs.Row.{mask};
+ghost use Rattle.rows.specs.Table.{size};
+ghost use Rattle.reduction.specs.Tables.{Minimises};
+ghost use Rattle.record.specs.Record.{statesOf, lettersOf, WellFormed, automatonOf};
+ghost use Rattle.record.specs.Outcome.{answerOf, bufferOf};
+ghost use Rattle.minimal.specs.Minimal.{minimalBytes, minimalOutcome, minimisedAs};
+use record::Checked;
+use record::Written;
+use rows::Machine;
+use rows::Table;
+
+// What the minimal service answers: the bytes written and the dimension, or the refusal.
+pub enum Minimised {
+    Done {
+        length: usize,
+        dimension: usize,
+    },
+    Refused {
+        number: usize,
+        record: usize,
+        place: usize,
+    },
+}
+
+// The answer of a service that writes, with the dimension.
+fn with_dimension(w: Written, d: usize) -> Minimised
+    ensures { λ r. ⌜ r ≡ minimisedAs d w ⌝ }
+{
+    match w {
+        Written::Done { length } => Minimised::Done {
+            length: length,
+            dimension: d,
+        },
+        Written::Refused {
+            number,
+            record,
+            place,
+        } => Minimised::Refused {
+            number: number,
+            record: record,
+            place: place,
+        },
+    }
+}
+
+// The minimal automaton of a well-formed record, its rows in out.
+pub fn minimal_form(bytes: &[u8], out: &mut Table) -> Machine
+    requires { ⌜ WellFormed (now bytes) × (length (now out) ≡ size) ⌝ }
+    ensures { λ r. ⌜ (r .letters ≡ lettersOf (now (bytes .entry))) × Minimises (lettersOf (now (bytes .entry))) (automatonOf (now (bytes .entry))) (now (out .exit)) (r .states) (mask (r .initial)) (mask (r .finals)) ⌝ }
+{
+    let mut t = [0u64; 512];
+    let mut u = [0u64; 512];
+    let mut b = [0u64; 512];
+    let mut c = [0u64; 512];
+    let m = record::read(bytes, &mut t);
+    reduction::minimise(&t, m, &mut u, &mut b, &mut c, out)
+}
+
+// Writes the minimal record of a record. Where it is granted with length n and dimension d, the first n bytes of the buffer are a
+// well-formed record over the record's letters with d states; it accepts exactly the record's words; d is the dimension of its
+// language; every xor automaton over those letters, of any size, that accepts those words has at least d states; and for every
+// well-formed record cs over those letters, its minimal record is byte for byte the same exactly when the words are.
+pub fn minimal(bytes: &[u8], out: &mut [u8]) -> Minimised
+    ensures answer { λ r. ⌜ r ≡ minimisedAs (dimensionOf (lettersOf (now (bytes .entry))) (automatonOf (now (bytes .entry)))) (answerOf (minimalOutcome (now (bytes .entry)) (length (now (out .entry))))) ⌝ }
+    ensures buffer { λ _. ⌜ now (out .exit) ≡ bufferOf (minimalOutcome (now (bytes .entry)) (length (now (out .entry)))) (now (out .entry)) ⌝ }
+    ensures form { λ r. ⌜ ((n d : ℕ) → r ≡ Minimised.Done n d → WellFormed (take n (now (out .exit))) × (lettersOf (take n (now (out .exit))) ≡ lettersOf (now (bytes .entry))) × (statesOf (take n (now (out .exit))) ≡ d)) ⌝ }
+    ensures words { λ r. ⌜ ((n d : ℕ) → r ≡ Minimised.Done n d → Same (lettersOf (now (bytes .entry))) (accepts (automatonOf (now (bytes .entry)))) (accepts (automatonOf (take n (now (out .exit)))))) ⌝ }
+    ensures dimension { λ r. ⌜ ((n d : ℕ) → r ≡ Minimised.Done n d → IsDimension (lettersOf (now (bytes .entry))) (accepts (automatonOf (now (bytes .entry)))) d) ⌝ }
+    ensures least { λ r. ⌜ ((n d : ℕ) → r ≡ Minimised.Done n d → (A : Automaton) → Same (lettersOf (now (bytes .entry))) (accepts (automatonOf (now (bytes .entry)))) (accepts A) → d ≤ A .states) ⌝ }
+    ensures unique { λ r. ⌜ ((n d : ℕ) → r ≡ Minimised.Done n d → (cs : List ℕ) → WellFormed cs → lettersOf cs ≡ lettersOf (now (bytes .entry)) → (take n (now (out .exit)) ≡ minimalBytes cs → Same (lettersOf (now (bytes .entry))) (accepts (automatonOf (now (bytes .entry)))) (accepts (automatonOf cs))) × (Same (lettersOf (now (bytes .entry))) (accepts (automatonOf (now (bytes .entry)))) (accepts (automatonOf cs)) → take n (now (out .exit)) ≡ minimalBytes cs)) ⌝ }
+{
+    let c = record::check(bytes);
+    let Checked::Good = c else {
+        return with_dimension(record::refused(c, 1), 0);
+    };
+    let mut s = [0u64; 512];
+    let m = minimal_form(bytes, &mut s);
+    let d = m.states;
+    with_dimension(record::write(&s, m, out), d)
+}

@@ -1,0 +1,50 @@
+-- The checks of two records, case by case; and what both have passed.
+use mathlib.Core.Path.{_≡_, refl, sym, _∙_}
+use mathlib.Core.Bool.{Bool, true, false, cond}
+use mathlib.Core.List.{List}
+use Prim.Native.Nat.{ℕ}
+use native.Mathlib.Omega.{arith}
+use borrow.Author.Tests.{eq-eqb, ne-eqb, eqb-true}
+use lib.Dec.{eqb}
+use Rattle.record.specs.Record.{lettersOf, checkOf, WellFormed}
+use Rattle.record.specs.declared.Checked.{Checked}
+use Rattle.record.specs.declared.Checked.the-variants.{Good, Refused as Bad}
+use Rattle.operands.specs.Operands.{named, pairOf}
+use Rattle.operands.specs.declared.Pair.{Pair}
+use Rattle.operands.specs.declared.Pair.the-variants.{Both, Refused}
+
+module _ (bs cs : List ℕ) where
+  pub first-met : {number place : ℕ} → checkOf bs ≡ Bad number place → pairOf bs cs ≡ Refused number 1 place
+  unfolding pairOf
+  first-met e = rw e
+
+  module _ (one : WellFormed bs) where
+    pub second-met : {number place : ℕ} → checkOf cs ≡ Bad number place → pairOf bs cs ≡ Refused number 2 place
+    unfolding pairOf
+    second-met e = rw (one, e)
+
+    module _ (two : WellFormed cs) where
+      pub letters-met : (lettersOf bs ≡ lettersOf cs → ⊥) → pairOf bs cs ≡ Refused 8 2 6
+      unfolding pairOf
+      letters-met h = rw (one, two, ne-eqb (lettersOf bs) (lettersOf cs) h)
+
+      pub both-pass : lettersOf bs ≡ lettersOf cs → pairOf bs cs ≡ Both
+      unfolding pairOf
+      both-pass h = rw (one, two, eq-eqb (lettersOf bs) (lettersOf cs) h)
+
+  -- Both are well formed, over the same letters.
+  pub both-passed : pairOf bs cs ≡ Both → WellFormed bs × WellFormed cs × (lettersOf bs ≡ lettersOf cs)
+  unfolding pairOf
+  both-passed e = one (checkOf bs) refl e
+    where
+      three : (b : Bool) → eqb (lettersOf bs) (lettersOf cs) ≡ b → cond b Both (Refused 8 2 6) ≡ Both → lettersOf bs ≡ lettersOf cs
+      three true h q = eqb-true (lettersOf bs) (lettersOf cs) h
+      three false h q = let z : _≡_ {A = ℕ} 0 1 = cc in absurd (omega arith)
+
+      two : (c : Checked) → checkOf cs ≡ c → named c 2 (cond (eqb (lettersOf bs) (lettersOf cs)) Both (Refused 8 2 6)) ≡ Both → WellFormed cs × (lettersOf bs ≡ lettersOf cs)
+      two Good h q = (h, three (eqb (lettersOf bs) (lettersOf cs)) refl q)
+      two (Bad number place) h q = let z : _≡_ {A = ℕ} 0 1 = cc in absurd (omega arith)
+
+      one : (c : Checked) → checkOf bs ≡ c → named c 1 (named (checkOf cs) 2 (cond (eqb (lettersOf bs) (lettersOf cs)) Both (Refused 8 2 6))) ≡ Both → WellFormed bs × WellFormed cs × (lettersOf bs ≡ lettersOf cs)
+      one Good h q = let t = two (checkOf cs) refl q in (h, t .0, t .1)
+      one (Bad number place) h q = let z : _≡_ {A = ℕ} 0 1 = cc in absurd (omega arith)

@@ -1,0 +1,2 @@
+-- The definitions that the contracts on two records cite.
+pub mod Operands

@@ -1,0 +1,8 @@
+-- Laws that belong to no one function.
+pub mod Bytes
+pub mod Stores
+pub mod RowList
+pub mod Refusals
+pub mod Encode
+pub mod Held
+pub mod Outcome

@@ -1,0 +1,5 @@
+-- What a reader must believe: Bytes, Record, Outcome. Held is for the contracts of inner functions.
+pub mod Bytes
+pub mod Record
+pub mod Outcome
+pub mod Held

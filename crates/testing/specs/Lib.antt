@@ -1,0 +1,2 @@
+-- The definitions that the contracts of the test cite.
+pub mod Testing

@@ -1,0 +1,5 @@
+pub mod FlipLaws
+pub mod SwapLaws
+pub mod BlockLaws
+pub mod StageLaws
+pub mod TurnLaws

@@ -1,0 +1,3 @@
+-- The definitions that the contracts on transposition cite.
+pub mod Exchange
+pub mod Transposed

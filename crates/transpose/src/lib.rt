@@ -1,0 +1,110 @@
+// The transposition of the matrices of a table, by exchanging bits of the row's number with bits of the place. The bit at place k of
+// row r goes to place r of row k, so r and k trade all their bits: stage b trades bit b, for all the rows of a block.
+use rows::Row;
+use rows::Table;
+ghost use mathlib.Core.Path.{_≡_};
+ghost use mathlib.Core.Bool.{false};
+ghost use Prim.Native.Nat.{ℕ, _^_, _≤_, _<_};
+ghost use lib.ListN.{length};
+ghost use Rattle.automata.specs.Mask.{bitOf};
+ghost use Rattle.rows.specs.Row.{width, levels, mask, stripes};
+ghost use Rattle.rows.specs.Table.{blocks, size, at, row};
+ghost use Rattle.transpose.specs.Exchange.{padded, exchanged, swapped, HasRows, OnlyBlock};
+ghost use Rattle.transpose.specs.Transposed.{Transposed};
+
+// 2 ^ w, as many rows or places.
+fn power(w: usize) -> usize
+    requires { ⌜ w ≤ levels ⌝ }
+    ensures { λ r. ⌜ r ≡ 2 ^ w ⌝ }
+{
+    1 << w
+}
+
+// Exchanges bit b in row r, whose number has no bit b, and in its partner r + 2 ^ b. The bits that trade stand at the places with
+// bit b in row r, and 2 ^ b below those in the partner: d is where they differ, at the places m without bit b.
+fn swap(t: &mut Table, l: usize, b: usize, m: Row, r: usize)
+    requires { ⌜ (l < blocks) × (b < levels) × (mask m ≡ stripes b) × (r < width) × (bitOf r b ≡ false) × (length (now t) ≡ size) ⌝ }
+    ensures { λ z. ⌜ OnlyBlock l (now (t .entry)) (now (t .exit)) × HasRows l width (swapped b r (row (now (t .entry)) l)) (now (t .exit)) ⌝ }
+{
+    let s = power(b);
+    let p = rows::load(t, l, r);
+    let q = rows::load(t, l, r + s);
+    let v = rows::lowered(p, s);
+    let e = rows::xor(v, q);
+    let d = rows::and(e, m);
+    let u = rows::moved(d, s);
+    let x = rows::xor(p, u);
+    let y = rows::xor(q, d);
+    rows::store(t, l, r, x);
+    rows::store(t, l, r + s, y);
+}
+
+// Exchanges bit b in the first 2 ^ w rows of block l.
+fn stage(t: &mut Table, l: usize, w: usize, b: usize)
+    requires { ⌜ (l < blocks) × (w ≤ levels) × (b < w) × (length (now t) ≡ size) ⌝ }
+    ensures { λ z. ⌜ OnlyBlock l (now (t .entry)) (now (t .exit)) × HasRows l (2 ^ w) (exchanged b (row (now (t .entry)) l)) (now (t .exit)) ⌝ }
+{
+    let m = rows::stripes(b);
+    let n = power(w);
+    let mut r: usize = 0;
+    while r < n {
+        let o = r >> b & 1 == 1;
+        if !o {
+            swap(t, l, b, m, r);
+        }
+        r += 1;
+    }
+}
+
+// The least w of which 2 ^ w is n or more.
+fn level(n: usize) -> usize
+    requires { ⌜ n ≤ width ⌝ }
+    ensures { λ w. ⌜ (w ≤ levels) × (n ≤ 2 ^ w) ⌝ }
+{
+    let mut w: usize = 0;
+    while power(w) < n {
+        w += 1;
+    }
+    w
+}
+
+// Copies the first n rows of block l, with rows of no bit behind them, to m rows in all.
+fn copy(t: &Table, out: &mut Table, l: usize, n: usize, m: usize)
+    requires { ⌜ (l < blocks) × (m ≤ width) × (length (now out) ≡ size) ⌝ }
+    ensures { λ r. ⌜ OnlyBlock l (now (out .entry)) (now (out .exit)) × HasRows l m (padded n (row (now (t .entry)) l)) (now (out .exit)) ⌝ }
+{
+    let mut i: usize = 0;
+    while i < m {
+        let x = rows::load(t, l, i);
+        let y = rows::when(i < n, x);
+        rows::store(out, l, i, y);
+        i += 1;
+    }
+}
+
+// Transposes the matrix in block l, of at most 2 ^ w rows.
+fn turn(t: &Table, out: &mut Table, l: usize, n: usize, w: usize)
+    requires { ⌜ (l < blocks) × (w ≤ levels) × (n ≤ 2 ^ w) × ((i : ℕ) → i < n → at (now t) l i < 2 ^ n) × (length (now out) ≡ size) ⌝ }
+    ensures { λ r. ⌜ OnlyBlock l (now (out .entry)) (now (out .exit)) × HasRows l n (λ i k. padded n (row (now (t .entry)) l) k i) (now (out .exit)) ⌝ }
+{
+    let m = power(w);
+    copy(t, out, l, n, m);
+    let mut b = w;
+    while b > 0 {
+        b -= 1;
+        stage(out, l, w, b);
+    }
+}
+
+// Transposes the n by n matrices in the first a blocks.
+pub fn transpose(t: &Table, out: &mut Table, a: usize, n: usize)
+    requires { ⌜ (a ≤ blocks) × (n ≤ width) × ((l i : ℕ) → l < a → i < n → at (now t) l i < 2 ^ n) × (length (now out) ≡ size) ⌝ }
+    ensures { λ r. ⌜ Transposed a n (now (t .entry)) (now (out .exit)) ⌝ }
+{
+    let w = level(n);
+    let mut l: usize = 0;
+    while l < a {
+        turn(t, out, l, n, w);
+        l += 1;
+    }
+}
