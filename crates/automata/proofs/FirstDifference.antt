@@ -108,6 +108,34 @@ compared-unique a L K none (some w) p q = absurd (same-or-first a L K w p q)
 compared-unique a L K (some u) none p q = absurd (same-or-first a L K u q p)
 compared-unique a L K (some u) (some w) p q = ap some (first-unique a L K u w p q)
 
+-- It is one of the languages, not of the automata.
+compared-same : (a : ℕ) (L K L′ K′ : Language) (x : Option (List ℕ)) → Same a L L′ → Same a K K′ → Compared a L K x → Compared a L′ K′ x
+compared-same a L K L′ K′ none p q s = λ w ow. sym (p w ow) ∙ s w ow ∙ q w ow
+compared-same a L K L′ K′ (some w) p q s = record {
+  over = s .over;
+  differs = ap₂ _⊕_ (sym (p w (s .over))) (sym (q w (s .over))) ∙ s .differs;
+  first = λ u ou h. sym (p u ou) ∙ s .first u ou h ∙ q u ou;
+}
+
+pub difference-same : (a : ℕ) (A B A′ B′ : Automaton) → Same a (accepts A) (accepts A′) → Same a (accepts B) (accepts B′) → firstDifference a A B ≡ firstDifference a A′ B′
+difference-same a A B A′ B′ p q =
+    compared-unique a (accepts A′) (accepts B′) (firstDifference a A B) (firstDifference a A′ B′)
+    (compared-same a (accepts A) (accepts B) (accepts A′) (accepts B′) (firstDifference a A B) p q (first-difference a A B)) (first-difference a A′ B′)
+
+-- What the function names is the first difference over all words, and where it names none the languages are the same.
+pub difference-none : (a : ℕ) (A B : Automaton) → firstDifference a A B ≡ none → Same a (accepts A) (accepts B)
+difference-none a A B e = subst (Compared a (accepts A) (accepts B)) e (first-difference a A B)
+
+pub difference-some : (a : ℕ) (A B : Automaton) (w : List ℕ) → firstDifference a A B ≡ some w → FirstDifference a (accepts A) (accepts B) w
+difference-some a A B w e = subst (Compared a (accepts A) (accepts B)) e (first-difference a A B)
+
+-- And the other way round.
+pub none-difference : (a : ℕ) (A B : Automaton) → Same a (accepts A) (accepts B) → firstDifference a A B ≡ none
+none-difference a A B s = compared-unique a (accepts A) (accepts B) (firstDifference a A B) none (first-difference a A B) s
+
+pub some-difference : (a : ℕ) (A B : Automaton) (w : List ℕ) → FirstDifference a (accepts A) (accepts B) w → firstDifference a A B ≡ some w
+some-difference a A B w f = compared-unique a (accepts A) (accepts B) (firstDifference a A B) (some w) (first-difference a A B) f
+
 -- The first difference is a basis word of the symmetric difference.
 pub difference-basis : (a : ℕ) (L K : Language) (w : List ℕ) → FirstDifference a L K w → Basis a (symmetricDifference L K) w
 difference-basis a L K w f = first-is-basis a (symmetricDifference L K) w (f .over) (f .differs) (λ u ou e. ap (λ b. b ⊕ K u) (f .first u ou e) ∙ xor-self (K u))
@@ -124,4 +152,4 @@ difference-short a A B w e = subst (λ n. length w < n) (ap₂ _+_ (minimal-stat
 }))
   where
     f : FirstDifference a (accepts A) (accepts B) w
-    f = subst (Compared a (accepts A) (accepts B)) e (first-difference a A B)
+    f = difference-some a A B w e

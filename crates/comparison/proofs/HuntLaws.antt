@@ -1,8 +1,8 @@
 -- The search for the first accepted row, pair by pair.
-use mathlib.Core.Path.{_≡_, sym, ap, subst, _∙_}
+use mathlib.Core.Path.{_≡_, sym, ap, _∙_}
 use mathlib.Core.Bool.{Bool, true, false, _&&_, false≢true}
 use mathlib.Core.List.{List}
-use mathlib.Core.Logic.{_⊎_, inl, inr}
+use mathlib.Core.Logic.{inl, inr}
 use Prim.Native.Nat.{ℕ, suc, _+_, _^_, _<_, _≤_}
 use native.Mathlib.Numerals.{add-one}
 use native.Mathlib.Omega.{arith}
@@ -15,7 +15,7 @@ use Rattle.rows.specs.Row.{width}
 use Rattle.rows.specs.Table.{size, at, row}
 use Rattle.rows.specs.Product.{product}
 use Rattle.rows.specs.Machine.{auto, Bounded}
-use Rattle.elimination.specs.Place.{Old, New, Placed}
+use Rattle.elimination.specs.Place.{Placed}
 use Rattle.reduction.specs.Tables.{SearchIn, accepted}
 use Rattle.reduction.proofs.SearchLaws.{search-next}
 use Rattle.reduction.proofs.TableSearch.{count-bound, found-low, placed-length, search-start, search-placed}

@@ -1,5 +1,5 @@
 -- What the search over two automata side by side says of their languages.
-use mathlib.Core.Path.{_≡_, sym, ap, _∙_}
+use mathlib.Core.Path.{_≡_, sym, _∙_}
 use mathlib.Core.Bool.{Bool, false, _&&_, and-comm}
 use mathlib.Core.List.{List}
 use mathlib.Core.Option.{none}

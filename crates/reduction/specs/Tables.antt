@@ -5,16 +5,14 @@
 --   Reduces      s is the automaton on the rows that b holds: the list of basis words is the tree of b
 --   Minimises    s is the minimal automaton
 use mathlib.Core.Path.{_≡_}
-use mathlib.Core.Bool.{Bool, true, false, _&&_}
+use mathlib.Core.Bool.{Bool, _&&_}
 use mathlib.Core.List.{List}
-use Prim.Native.Nat.{ℕ, _<_, _≤_}
+use Prim.Native.Nat.{ℕ, _<_}
 use lib.ListN.{length}
 use Rattle.automata.specs.Xor.{xorBelow}
-use Rattle.automata.specs.Automaton.{Automaton, accepts}
-use Rattle.automata.specs.Language.{Same}
+use Rattle.automata.specs.Automaton.{Automaton}
 use Rattle.automata.specs.Mask.{bitOf}
-use Rattle.automata.specs.Minimal.{Minimal}
-use Rattle.automata.specs.MinimalOf.{basisWords, minimalOf, dimensionOf}
+use Rattle.automata.specs.MinimalOf.{minimalOf, dimensionOf}
 use Rattle.automata.specs.Fields.{fields}
 use Rattle.automata.specs.Tree.{Tree}
 use Rattle.rows.specs.Table.{size, at, row}

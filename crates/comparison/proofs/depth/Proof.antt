@@ -3,7 +3,6 @@ use mathlib.Core.Path.{_≡_, _∙_, subst, sym}
 use Prim.Native.Nat.{_+_, _^_, _≤_, _<_}
 use native.Mathlib.Omega.{arith}
 use Rattle.rows.specs.Table.{at}
-use Rattle.rows.specs.Row.{mask}
 use Rattle.comparison.proofs.TraceLaws.{depth, depth-child}
 use Rattle.comparison.proofs.depth.Statement.{statement}
 use Rattle.comparison.proofs.depth.Tie as tie

@@ -1,5 +1,5 @@
 -- `join_block`: the rows below i of block l are filled.
-use mathlib.Core.Path.{_≡_, _∙_}
+use mathlib.Core.Path.{_≡_}
 use Prim.Native.Nat.{_+_, _-_, _≤_}
 use native.Mathlib.Omega.{arith}
 use Rattle.rows.specs.Row.{mask}

@@ -1,11 +1,11 @@
 -- `trace`: the letters from p on are written, and the word of row r is what comes before.
 use mathlib.Core.Path.{_≡_, _∙_, subst, sym}
-use Prim.Native.Nat.{_+_, _^_, _≤_, _<_}
+use Prim.Native.Nat.{_^_, _≤_, _<_}
 use native.Mathlib.Omega.{arith}
 use lib.ListN.{length}
-use Rattle.rows.specs.Row.{width, mask}
+use Rattle.rows.specs.Row.{width}
 use Rattle.rows.specs.Table.{at}
-use Rattle.comparison.proofs.TraceLaws.{depth, depth-child, Writing, writing-start, writing-step, writing-end}
+use Rattle.comparison.proofs.TraceLaws.{depth-child, Writing, writing-start, writing-step, writing-end}
 use Rattle.comparison.proofs.trace.Statement.{statement}
 use Rattle.comparison.proofs.trace.Tie as tie
 

@@ -1,6 +1,6 @@
 -- `try_rows`: the rows below k are done, and no row found is accepted; there are never more rows than bits.
 use mathlib.Core.Path.{_≡_}
-use Prim.Native.Nat.{_-_, _≤_, _<_}
+use Prim.Native.Nat.{_-_, _≤_}
 use native.Mathlib.Omega.{arith}
 use borrow.Author.Needs.{needs}
 use Rattle.rows.specs.Row.{width, mask}

@@ -1,7 +1,6 @@
 -- `minimise`: both tables hold mirrors, so the two reductions are those of the two passes.
 use Rattle.rows.specs.Row.{mask}
 use Rattle.reduction.proofs.MinimiseLaws.{transposed-bounded, twice}
-use borrow.Author.Needs.{needs}
 use Rattle.reduction.proofs.minimise.Statement.{statement}
 use Rattle.reduction.proofs.minimise.Tie as tie
 

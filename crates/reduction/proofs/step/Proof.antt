@@ -1,10 +1,9 @@
 -- `step`: the pair is done, its product in the table.
 use native.Mathlib.Omega.{arith}
-use Rattle.rows.specs.Row.{width, mask}
+use Rattle.rows.specs.Row.{mask}
 use Rattle.rows.specs.Table.{at}
 use Rattle.rows.specs.Product.{product}
 use Rattle.reduction.proofs.TableSearch.{count-bound, searching-step, placed-more}
-use borrow.Author.Needs.{needs}
 use Rattle.reduction.proofs.step.Statement.{statement}
 use Rattle.reduction.proofs.step.Tie as tie
 

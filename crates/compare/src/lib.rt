@@ -1,0 +1,115 @@
+// The comparison of two records: from bytes to the first word that just one accepts.
+ghost use mathlib.Core.Path.{_≡_};
+ghost use mathlib.Core.Bool.{true};
+ghost use mathlib.Core.List.{List};
+ghost use Prim.Native.Nat.{ℕ, _+_, _<_};
+ghost use lib.ListN.{length, take};
+ghost use Rattle.automata.specs.Automaton.{accepts};
+ghost use Rattle.automata.specs.Language.{Same};
+ghost use Rattle.automata.specs.Dimension.{IsDimension};
+ghost use Rattle.automata.specs.FirstDifference.{FirstDifference};
+ghost use Rattle.rows.specs.Table.{size};
+ghost use Rattle.comparison.specs.Sum.{Judged};
+ghost use Rattle.record.specs.Record.{lettersOf, WellFormed, automatonOf};
+ghost use Rattle.record.specs.Outcome.{bufferOf};
+ghost use Rattle.compare.specs.Compare.{differenceOf, compareOutcome, sideOf, acceptorOf, refusedAs, comparedAs};
+use comparison::Verdict;
+use operands::Pair;
+use rows::Table;
+
+// Which of two records accepts a word.
+pub enum Side {
+    First,
+    Second,
+}
+
+// What a comparison answers.
+pub enum Compared {
+    Same,
+    Differs {
+        length: usize,
+        side: Side,
+    },
+    Refused {
+        number: usize,
+        record: usize,
+        place: usize,
+    },
+}
+
+// A refusal of the checks, as the answer of a comparison.
+fn refuse(p: Pair) -> Compared
+    ensures { λ r. ⌜ r ≡ refusedAs p ⌝ }
+{
+    match p {
+        Pair::Both => Compared::Same,
+        Pair::Refused {
+            number,
+            record,
+            place,
+        } => Compared::Refused {
+            number: number,
+            record: record,
+            place: place,
+        },
+    }
+}
+
+// The first record where `first` holds, else the second.
+fn named_side(first: bool) -> Side
+    ensures { λ r. ⌜ r ≡ sideOf first ⌝ }
+{
+    if first { Side::First } else { Side::Second }
+}
+
+// Compares two well-formed records over the same letters; b is left with the words of the rows found.
+pub fn judge(first: &[u8], second: &[u8], b: &mut Table) -> Verdict
+    requires { ⌜ WellFormed (now first) × WellFormed (now second) × (lettersOf (now first) ≡ lettersOf (now second)) × (length (now b) ≡ size) ⌝ }
+    ensures { λ r. ⌜ Judged (lettersOf (now (first .entry))) (automatonOf (now (first .entry))) (automatonOf (now (second .entry))) (now (b .exit)) r ⌝ }
+{
+    let mut t = [0u64; 512];
+    let mut u = [0u64; 512];
+    let mut s = [0u64; 512];
+    let g = record::read(first, &mut t);
+    let h = record::read(second, &mut u);
+    comparison::compare(&t, g, &u, h, &mut s, b)
+}
+
+// Compares two records and writes the first word that just one accepts. For two well-formed records over the same letters:
+// `same`: Same comes exactly when every word over the letters, of any length, is accepted by both or by neither.
+// `first`: otherwise the word is the first such word in shortlex order, the side named accepts it, and it has fewer letters than the
+// two dimensions added.
+// `withheld`: refusal 12 comes exactly where the languages differ and the buffer is shorter than that word, its place the word's length.
+pub fn compare(first: &[u8], second: &[u8], word: &mut [u8]) -> Compared
+    ensures answer { λ r. ⌜ r ≡ comparedAs (differenceOf (now (first .entry)) (now (second .entry))) (automatonOf (now (first .entry))) (compareOutcome (now (first .entry)) (now (second .entry)) (length (now (word .entry)))) ⌝ }
+    ensures buffer { λ _. ⌜ now (word .exit) ≡ bufferOf (compareOutcome (now (first .entry)) (now (second .entry)) (length (now (word .entry)))) (now (word .entry)) ⌝ }
+    ensures same { λ r. ⌜ (WellFormed (now (first .entry)) → WellFormed (now (second .entry)) → lettersOf (now (first .entry)) ≡ lettersOf (now (second .entry)) → (r ≡ Compared.Same → Same (lettersOf (now (first .entry))) (accepts (automatonOf (now (first .entry)))) (accepts (automatonOf (now (second .entry))))) × (Same (lettersOf (now (first .entry))) (accepts (automatonOf (now (first .entry)))) (accepts (automatonOf (now (second .entry)))) → r ≡ Compared.Same)) ⌝ }
+    ensures first { λ r. ⌜ ((n : ℕ) (s : Side) → r ≡ Compared.Differs n s → FirstDifference (lettersOf (now (first .entry))) (accepts (automatonOf (now (first .entry)))) (accepts (automatonOf (now (second .entry)))) (take n (now (word .exit))) × (accepts (automatonOf (acceptorOf s (now (first .entry)) (now (second .entry)))) (take n (now (word .exit))) ≡ true) × ((d e : ℕ) → IsDimension (lettersOf (now (first .entry))) (accepts (automatonOf (now (first .entry)))) d → IsDimension (lettersOf (now (first .entry))) (accepts (automatonOf (now (second .entry)))) e → n < d + e)) ⌝ }
+    ensures withheld { λ r. ⌜ (WellFormed (now (first .entry)) → WellFormed (now (second .entry)) → lettersOf (now (first .entry)) ≡ lettersOf (now (second .entry)) → (w : List ℕ) → FirstDifference (lettersOf (now (first .entry))) (accepts (automatonOf (now (first .entry)))) (accepts (automatonOf (now (second .entry)))) w → (length (now (word .entry)) < length w → r ≡ Compared.Refused 12 0 (length w)) × ((k : ℕ) → r ≡ Compared.Refused 12 0 k → (k ≡ length w) × (length (now (word .entry)) < length w))) ⌝ }
+{
+    let p = operands::check_pair(first, second);
+    let Pair::Both = p else {
+        return refuse(p);
+    };
+    let mut b = [0u64; 512];
+    let v = judge(first, second, &mut b);
+    let Verdict::Differs {
+        row,
+        first: by_first,
+    } = v
+    else {
+        return Compared::Same;
+    };
+    let a = record::size(first[6]);
+    let n = comparison::depth(&b, a, row);
+    if word.len() < n {
+        return Compared::Refused {
+            number: 12,
+            record: 0,
+            place: n,
+        };
+    }
+    comparison::trace(&b, a, row, n, word);
+    let s = named_side(by_first);
+    Compared::Differs { length: n, side: s }
+}
