@@ -20,12 +20,12 @@ use Rattle.record.specs.Outcome.{refused, wrote, bufferOf, fit}
 use Rattle.record.proofs.Outcome.{fit-short, fit-done, outcome-take}
 use Rattle.operands.specs.Operands.{pairOf}
 use Rattle.operands.specs.declared.Pair.{Pair}
-use Rattle.operands.specs.declared.Pair.the-variants.{Both}
+use Rattle.operands.specs.declared.Pair.the-variants.{Both, Refused as Bad}
 use Rattle.operands.proofs.PairLaws.{both-pass}
 use Rattle.compare.specs.Compare.{differenceOf, compareOutcome, sideOf, acceptorOf, comparedAs}
 use Rattle.compare.specs.declared.Side.{Side}
 use Rattle.compare.specs.declared.Compared.{Compared}
-use Rattle.compare.specs.declared.Compared.the-variants.{Differs, Refused}
+use Rattle.compare.specs.declared.Compared.the-variants.{Same as IsSame, Differs, Refused}
 
 clash : {X : Type 0} → _≡_ {A = ℕ} 0 1 → X
 clash z = absurd (omega arith)

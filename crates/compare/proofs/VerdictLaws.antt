@@ -7,7 +7,7 @@ use Rattle.automata.specs.Language.{Same}
 use Rattle.automata.proofs.FirstDifference.{difference-same, difference-some}
 use Rattle.comparison.specs.Sum.{wordIn, Judged}
 use Rattle.comparison.specs.declared.Verdict.{Verdict}
-use Rattle.comparison.specs.declared.Verdict.the-variants.{Differs}
+use Rattle.comparison.specs.declared.Verdict.the-variants.{Same as IsSame, Differs}
 
 pub judged-same : (a : ℕ) (A B A′ B′ : Automaton) (b : List ℕ) (v : Verdict) → Same a (accepts A) (accepts A′) → Same a (accepts B) (accepts B′) → Judged a A B b v → Judged a A′ B′ b v
 judged-same a A B A′ B′ b IsSame p q J = sym (difference-same a A B A′ B′ p q) ∙ J

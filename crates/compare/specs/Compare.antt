@@ -14,7 +14,7 @@ use Rattle.record.specs.Record.{lettersOf, automatonOf}
 use Rattle.record.specs.Outcome.{Outcome, refused, wrote, fit}
 use Rattle.operands.specs.Operands.{pairOf, afterPair}
 use Rattle.operands.specs.declared.Pair.{Pair}
-use Rattle.operands.specs.declared.Pair.the-variants.{Both}
+use Rattle.operands.specs.declared.Pair.the-variants.{Both, Refused as Bad}
 use Rattle.compare.specs.declared.Side.{Side}
 use Rattle.compare.specs.declared.Side.the-variants.{First, Second}
 use Rattle.compare.specs.declared.Compared.{Compared}

@@ -10,6 +10,7 @@ use Rattle.record.specs.Outcome.{Outcome, checked, fit}
 use Rattle.record.specs.declared.Written.{Written}
 use Rattle.record.specs.declared.Written.the-variants.{Done, Refused}
 use Rattle.minimal.specs.declared.Minimised.{Minimised}
+use Rattle.minimal.specs.declared.Minimised.the-variants.{Done as Minimal, Refused as NotMinimised}
 
 unfoldable pub minimalBytes : List ℕ → List ℕ
 minimalBytes bs = encode (lettersOf bs) (minimalOf (lettersOf bs) (automatonOf bs))

@@ -1,5 +1,5 @@
 -- The checks of two records, case by case; and what both have passed.
-use mathlib.Core.Path.{_≡_, refl}
+use mathlib.Core.Path.{_≡_, refl, sym, _∙_}
 use mathlib.Core.Bool.{Bool, true, false, cond}
 use mathlib.Core.List.{List}
 use Prim.Native.Nat.{ℕ}
@@ -8,8 +8,9 @@ use borrow.Author.Tests.{eq-eqb, ne-eqb, eqb-true}
 use lib.Dec.{eqb}
 use Rattle.record.specs.Record.{lettersOf, checkOf, WellFormed}
 use Rattle.record.specs.declared.Checked.{Checked}
-use Rattle.record.specs.declared.Checked.the-variants.{Good}
+use Rattle.record.specs.declared.Checked.the-variants.{Good, Refused as Bad}
 use Rattle.operands.specs.Operands.{named, pairOf}
+use Rattle.operands.specs.declared.Pair.{Pair}
 use Rattle.operands.specs.declared.Pair.the-variants.{Both, Refused}
 
 module _ (bs cs : List ℕ) where

@@ -2,14 +2,14 @@
 --   named c which rest     a refusal of record `which` is the whole answer; else the rest decides
 --   pairOf bs cs           what the checks of both find
 --   afterPair              what follows them in a service that writes
-use mathlib.Core.Bool.{cond}
+use mathlib.Core.Bool.{Bool, cond}
 use mathlib.Core.List.{List}
 use Prim.Native.Nat.{ℕ}
 use lib.Dec.{eqb}
 use Rattle.record.specs.Record.{lettersOf, checkOf}
 use Rattle.record.specs.Outcome.{Outcome, refused}
 use Rattle.record.specs.declared.Checked.{Checked}
-use Rattle.record.specs.declared.Checked.the-variants.{Good}
+use Rattle.record.specs.declared.Checked.the-variants.{Good, Refused as Bad}
 use Rattle.operands.specs.declared.Pair.{Pair}
 use Rattle.operands.specs.declared.Pair.the-variants.{Both, Refused}
 

@@ -13,7 +13,7 @@ use lib.ListN.{length, drop}
 use lib.Dec.{ltb}
 use Rattle.record.specs.Record.{checkOf}
 use Rattle.record.specs.declared.Checked.{Checked}
-use Rattle.record.specs.declared.Checked.the-variants.{Good}
+use Rattle.record.specs.declared.Checked.the-variants.{Good, Refused as Bad}
 use Rattle.record.specs.declared.Written.{Written}
 use Rattle.record.specs.declared.Written.the-variants.{Done, Refused}
 

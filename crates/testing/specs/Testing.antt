@@ -15,7 +15,7 @@ use Rattle.rows.specs.declared.Row.{Row}
 use Rattle.rows.specs.Row.{mask}
 use Rattle.rows.specs.Machine.{automatonIn}
 use Rattle.record.specs.declared.Checked.{Checked}
-use Rattle.record.specs.declared.Checked.the-variants.{Good}
+use Rattle.record.specs.declared.Checked.the-variants.{Good, Refused as Bad}
 use Rattle.record.specs.Record.{lettersOf, row, andThen, checkOf, automatonOf}
 use Rattle.testing.specs.declared.Tested.{Tested}
 use Rattle.testing.specs.declared.Tested.the-variants.{Accepted, Rejected, Refused}
