@@ -1,21 +1,26 @@
 -- What the minimal record is: its words, its dimension, that no automaton has fewer states, and that it is the only one.
 use mathlib.Core.Path.{_≡_, refl, sym, ap, subst, _∙_}
-use mathlib.Core.List.{List}
-use Prim.Native.Nat.{ℕ, _≤_}
+use mathlib.Core.Bool.{false, _&&_}
+use mathlib.Core.List.{List, []}
+use Prim.Native.Nat.{ℕ, _+_, _*_, _^_, _≤_, _<_}
 use native.Mathlib.Omega.{arith}
-use lib.ListN.{length, take}
+use lib.ListN.{length, getD, take}
 use Rattle.automata.specs.Automaton.{Automaton, accepts}
-use Rattle.automata.specs.Language.{Same}
-use Rattle.automata.specs.Dimension.{IsDimension}
-use Rattle.automata.specs.MinimalOf.{minimalOf, dimensionOf}
+use Rattle.automata.specs.Language.{Language, Same}
+use Rattle.automata.specs.Dimension.{IsDimension, quotients}
+use Rattle.automata.specs.Minimal.{Minimal, SameBits}
+use Rattle.automata.specs.MinimalOf.{basisWords, minimalOf, dimensionOf}
+use Rattle.automata.proofs.Xor.{xor-cong}
+use Rattle.automata.proofs.MinimalOf.{minimal-of}
 use Rattle.automata.proofs.Minimal.{bits-language}
 use Rattle.automata.proofs.Dimension.{minimal-states, minimal-language, dimension-of, dimension-least}
 use Rattle.automata.proofs.Fields.{same-fields, fields-same}
-use Rattle.record.specs.Record.{statesOf, lettersOf, checkOf, WellFormed, automatonOf, encode, maxStates}
+use Rattle.record.specs.Record.{statesOf, lettersOf, checkOf, WellFormed, automatonOf, encode, maxStates, rowBytes, initialAt, finalAt}
 use Rattle.rows.specs.declared.Machine.{Machine}
 use Rattle.rows.specs.Row.{mask}
 use Rattle.rows.specs.Machine.{automatonIn}
 use Rattle.reduction.specs.Tables.{Minimises}
+use Rattle.record.specs.Bytes.{number}
 use Rattle.record.specs.Outcome.{Outcome, refused, wrote, answerOf, bufferOf, refusalOf, fit}
 use Rattle.record.specs.declared.Checked.the-variants.{Refused}
 use Rattle.record.proofs.Refusals.{Front, good-check}
@@ -29,6 +34,8 @@ use Rattle.minimal.specs.declared.Minimised.the-variants.{Done}
 pub record MinimalRecord (bs out : List ℕ) (d : ℕ) : Type 0 where
   pub form : WellFormed out × (lettersOf out ≡ lettersOf bs) × (statesOf out ≡ d)
   pub words : Same (lettersOf bs) (accepts (automatonOf bs)) (accepts (automatonOf out))
+  pub basis : (ws : List (List ℕ)) × Minimal (lettersOf bs) (accepts (automatonOf bs)) (automatonOf out) ws
+  pub empty : Same (lettersOf bs) (accepts (automatonOf bs)) (λ w. false) → (d ≡ 0) × (number rowBytes out initialAt ≡ 0) × (number rowBytes out finalAt ≡ 0)
   pub dimension : IsDimension (lettersOf bs) (accepts (automatonOf bs)) d
   pub least : (A : Automaton) → Same (lettersOf bs) (accepts (automatonOf bs)) (accepts A) → d ≤ A .states
   pub unique : (cs : List ℕ) → WellFormed cs → lettersOf cs ≡ lettersOf bs
@@ -41,11 +48,30 @@ minimal-fits bs good a =
     let f = good-check bs good .front in
     omega (arith, minimal-states a (automatonOf bs), dimension-least a (automatonOf bs) (automatonOf bs) (λ w ow. refl), f .states)
 
+-- The automaton with no states.
+abbrev noStates : Automaton
+noStates = record { states = 0; initial = λ i. false; final = λ i. false; step = λ l i j. false }
+
+-- What has the bits of a minimal automaton is minimal.
+minimal-bits : (a : ℕ) (L : Language) (A B : Automaton) (ws : List (List ℕ)) → SameBits a B A → Minimal a L A ws → Minimal a L B ws
+minimal-bits a L A B ws s M = record {
+  words = M .words;
+  size = s .states ∙ M .size;
+  starts = λ k h. s .initial k (in-b k h) ∙ M .starts k h;
+  ends = λ k h. s .final k (in-b k h) ∙ M .ends k h;
+  rows = λ l k hl hk v ov. M .rows l k hl hk v ov ∙ xor-cong (length ws) (λ j p. ap (λ b. b && quotients L (λ i. getD ws i []) j v) (sym (s .step l k j hl (in-b k hk) (in-b j p))));
+}
+  where
+    in-b : (k : ℕ) → k < length ws → k < B .states
+    in-b k h = omega (arith, s .states, M .size)
+
 pub minimal-record : (bs : List ℕ) → WellFormed bs → MinimalRecord bs (minimalBytes bs) (dimensionOf (lettersOf bs) (automatonOf bs))
 unfolding minimalBytes
 minimal-record bs good = record {
   form = (check-encode a M small (f .some) (f .letters), letters-encode a M, states-encode a M ∙ minimal-states a A);
   words = λ w ow. minimal-language a A w ow ∙ sym (bits-language a (automatonOf (encode a M)) M (bits-encode a M small) w ow);
+  basis = (basisWords a (A .states) (accepts A), minimal-bits a (accepts A) M (automatonOf (encode a M)) (basisWords a (A .states) (accepts A)) (bits-encode a M small) (minimal-of a A));
+  empty = none;
   dimension = dimension-of a A;
   least = λ B same. dimension-least a A B same;
   unique = λ cs other e. (
@@ -68,6 +94,16 @@ minimal-record bs good = record {
 
     small : M .states ≤ maxStates
     small = minimal-fits bs good (lettersOf bs)
+
+    -- The automaton with no states accepts no word.
+    none : Same a (accepts A) (λ w. false) → (dimensionOf a A ≡ 0) × (number rowBytes (encode a M) initialAt ≡ 0) × (number rowBytes (encode a M) finalAt ≡ 0)
+    none e =
+        let zero-states : dimensionOf a A ≡ 0 = omega (arith, dimension-least a A noStates e) in
+        let p = good-check (encode a M) (check-encode a M small (f .some) (f .letters)) in
+        let n : statesOf (encode a M) ≡ 0 = states-encode a M ∙ minimal-states a A ∙ zero-states in
+        let i : number rowBytes (encode a M) (7 + 4 * 0) < 2 ^ 0 = subst (λ k. number rowBytes (encode a M) (7 + 4 * 0) < 2 ^ k) n (p .below 0 (omega arith)) in
+        let j : number rowBytes (encode a M) (7 + 4 * 1) < 2 ^ 0 = subst (λ k. number rowBytes (encode a M) (7 + 4 * 1) < 2 ^ k) n (p .below 1 (omega arith)) in
+        (zero-states, omega arith, omega arith)
 
     over : (cs : List ℕ) → lettersOf cs ≡ lettersOf bs → encode (lettersOf cs) (minimalOf (lettersOf cs) (automatonOf cs)) ≡ encode (lettersOf bs) (minimalOf (lettersOf bs) (automatonOf cs))
     over cs e = ap (λ x. encode x (minimalOf x (automatonOf cs))) e

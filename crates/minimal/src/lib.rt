@@ -1,16 +1,19 @@
 // The minimal record of a record: from bytes to bytes.
 ghost use mathlib.Core.Path.{_≡_};
+ghost use mathlib.Core.Bool.{false};
 ghost use mathlib.Core.List.{List};
 ghost use Prim.Native.Nat.{ℕ, _≤_};
 ghost use lib.ListN.{length, take};
 ghost use Rattle.automata.specs.Automaton.{Automaton, accepts};
 ghost use Rattle.automata.specs.Language.{Same};
 ghost use Rattle.automata.specs.Dimension.{IsDimension};
+ghost use Rattle.automata.specs.Minimal.{Minimal};
 ghost use Rattle.automata.specs.MinimalOf.{dimensionOf};
 ghost use Rattle.rows.specs.Row.{mask};
 ghost use Rattle.rows.specs.Table.{size};
 ghost use Rattle.reduction.specs.Tables.{Minimises};
-ghost use Rattle.record.specs.Record.{statesOf, lettersOf, WellFormed, automatonOf};
+ghost use Rattle.record.specs.Record.{statesOf, lettersOf, WellFormed, automatonOf, rowBytes, initialAt, finalAt};
+ghost use Rattle.record.specs.Bytes.{number};
 ghost use Rattle.record.specs.Outcome.{answerOf, bufferOf};
 ghost use Rattle.minimal.specs.Minimal.{minimalBytes, minimalOutcome, minimisedAs};
 use record::Checked;
@@ -65,15 +68,19 @@ pub fn minimal_form(bytes: &[u8], out: &mut Table) -> Machine
     reduction::minimise(&t, m, &mut u, &mut b, &mut c, out)
 }
 
-// Writes the minimal record of a record. Where it is granted with length n and dimension d, the first n bytes of the buffer are a
-// well-formed record over the record's letters with d states; it accepts exactly the record's words; d is the dimension of its
-// language; every xor automaton over those letters, of any size, that accepts those words has at least d states; and for every
-// well-formed record cs over those letters, its minimal record is byte for byte the same exactly when the words are.
+// Writes the minimal record of a record. Where it is granted with length n and dimension d, of the first n bytes of the buffer:
+// `form`: they are a well-formed record over the record's letters with d states; `words`: it accepts exactly the record's words.
+// `basis`: it has one state for each basis word, in order, with I, F and rows as 01 says; `empty`: n, I and F are 0 for no word.
+// `dimension`: d is the dimension of the language; `least`: every xor automaton over the letters, of any size, that accepts those
+// words has at least d states; `unique`: the minimal record of any other well-formed record over the letters is byte for byte the
+// same exactly when its words are.
 pub fn minimal(bytes: &[u8], out: &mut [u8]) -> Minimised
     ensures answer { λ r. ⌜ r ≡ minimisedAs (dimensionOf (lettersOf (now (bytes .entry))) (automatonOf (now (bytes .entry)))) (answerOf (minimalOutcome (now (bytes .entry)) (length (now (out .entry))))) ⌝ }
     ensures buffer { λ _. ⌜ now (out .exit) ≡ bufferOf (minimalOutcome (now (bytes .entry)) (length (now (out .entry)))) (now (out .entry)) ⌝ }
     ensures form { λ r. ⌜ ((n d : ℕ) → r ≡ Minimised.Done n d → WellFormed (take n (now (out .exit))) × (lettersOf (take n (now (out .exit))) ≡ lettersOf (now (bytes .entry))) × (statesOf (take n (now (out .exit))) ≡ d)) ⌝ }
     ensures words { λ r. ⌜ ((n d : ℕ) → r ≡ Minimised.Done n d → Same (lettersOf (now (bytes .entry))) (accepts (automatonOf (now (bytes .entry)))) (accepts (automatonOf (take n (now (out .exit)))))) ⌝ }
+    ensures basis { λ r. ⌜ ((n d : ℕ) → r ≡ Minimised.Done n d → (ws : List (List ℕ)) × Minimal (lettersOf (now (bytes .entry))) (accepts (automatonOf (now (bytes .entry)))) (automatonOf (take n (now (out .exit)))) ws) ⌝ }
+    ensures empty { λ r. ⌜ ((n d : ℕ) → r ≡ Minimised.Done n d → Same (lettersOf (now (bytes .entry))) (accepts (automatonOf (now (bytes .entry)))) (λ w. false) → (d ≡ 0) × (number rowBytes (take n (now (out .exit))) initialAt ≡ 0) × (number rowBytes (take n (now (out .exit))) finalAt ≡ 0)) ⌝ }
     ensures dimension { λ r. ⌜ ((n d : ℕ) → r ≡ Minimised.Done n d → IsDimension (lettersOf (now (bytes .entry))) (accepts (automatonOf (now (bytes .entry)))) d) ⌝ }
     ensures least { λ r. ⌜ ((n d : ℕ) → r ≡ Minimised.Done n d → (A : Automaton) → Same (lettersOf (now (bytes .entry))) (accepts (automatonOf (now (bytes .entry)))) (accepts A) → d ≤ A .states) ⌝ }
     ensures unique { λ r. ⌜ ((n d : ℕ) → r ≡ Minimised.Done n d → (cs : List ℕ) → WellFormed cs → lettersOf cs ≡ lettersOf (now (bytes .entry)) → (take n (now (out .exit)) ≡ minimalBytes cs → Same (lettersOf (now (bytes .entry))) (accepts (automatonOf (now (bytes .entry)))) (accepts (automatonOf cs))) × (Same (lettersOf (now (bytes .entry))) (accepts (automatonOf (now (bytes .entry)))) (accepts (automatonOf cs)) → take n (now (out .exit)) ≡ minimalBytes cs)) ⌝ }

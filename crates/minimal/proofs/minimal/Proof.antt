@@ -55,7 +55,7 @@ returns c =
     let e = minimal-refused bs (length (now (a .out))) (dimensionOf (lettersOf bs) (automatonOf bs)) 0 (told .0 .0) (told .0 .1 .0) (sym (c .before .before .before .before .check .ensures) ∙ told .1) in
     let answer = c .with-dimension .ensures ∙ ap (minimisedAs 0) (c .before .refused .ensures ∙ ap (λ k. refusalOf k 1) (told .1)) ∙ e .0 in
     let p = minimal-claims bs (now (a .out)) (now (a .out)) (c .with-dimension .result) answer (e .1 (now (a .out))) in
-    (answer, (e .1 (now (a .out)), (λ n d q. p n d q .form, (λ n d q. p n d q .words, (λ n d q. p n d q .dimension, (λ n d q. p n d q .least, λ n d q. p n d q .unique))))))
+    (answer, (e .1 (now (a .out)), (λ n d q. p n d q .form, (λ n d q. p n d q .words, (λ n d q. p n d q .basis, (λ n d q. p n d q .empty, (λ n d q. p n d q .dimension, (λ n d q. p n d q .least, λ n d q. p n d q .unique))))))))
 
 minimal-form-requires : tie.Need-minimal-form-requires
 minimal-form-requires c κs = (passed (c .before), refl)
@@ -79,7 +79,7 @@ returns-2 c =
     let answer = c .with-dimension2 .ensures ∙ ap (minimisedAs (f .result .states)) (w .0 ∙ ap answerOf (sym o)) ∙ ap (λ d. minimisedAs d (answerOf (minimalOutcome bs (length (now (a .out)))))) (f .ensures .1 .dimension) in
     let buffer = w .1 ∙ ap (λ x. bufferOf x (now (a .out))) (sym o) in
     let p = minimal-claims bs (now (a .out)) (c .before .before .before .write .last .1 .1 .0) (c .with-dimension2 .result) answer buffer in
-    (answer, (buffer, (λ n d q. p n d q .form, (λ n d q. p n d q .words, (λ n d q. p n d q .dimension, (λ n d q. p n d q .least, λ n d q. p n d q .unique))))))
+    (answer, (buffer, (λ n d q. p n d q .form, (λ n d q. p n d q .words, (λ n d q. p n d q .basis, (λ n d q. p n d q .empty, (λ n d q. p n d q .dimension, (λ n d q. p n d q .least, λ n d q. p n d q .unique))))))))
 
 pub minimal-spec : {M : Type 1} → statement M
 minimal-spec =

@@ -1,5 +1,4 @@
 -- `with_dimension`: case by case.
-use mathlib.Core.Path.{refl}
 use borrow.Author.Needs.{needs}
 use Rattle.minimal.proofs.with_dimension.Statement.{statement}
 use Rattle.minimal.proofs.with_dimension.Tie as tie
