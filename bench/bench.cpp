@@ -1,0 +1,195 @@
+// Times the proved services beside a plain and a tuned C++ program, from record bytes to answer bytes, in one run on the same inputs.
+// Every answer must agree. Build: see README.md in this folder. The yardstick is included, not linked: baseline.cpp and tuned.hpp.
+#define NO_MAIN
+#include "baseline.cpp"
+#include "tuned.hpp"
+extern "C" {
+#include "nxa.h"
+}
+#include <algorithm>
+#include <cstdio>
+#include <cstdlib>
+#include <cstring>
+#include <string>
+#include <time.h>
+#include <vector>
+
+typedef std::vector<u8> Bytes;
+struct Pair { Bytes first, second; };
+
+// ---- inputs
+
+static u64 seed = 20261115;
+
+static u64 random64() {
+    u64 z = (seed += 0x9E3779B97F4A7C15ull);
+    z = (z ^ z >> 30) * 0xBF58476D1CE4E5B9ull;
+    z = (z ^ z >> 27) * 0x94D049BB133111EBull;
+    return z ^ z >> 31;
+}
+
+static u64 random_row(int n, double density) {
+    u64 r = 0;
+    for (int i = 0; i < n; i++)
+        if ((random64() >> 11) * 0x1p-53 < density) r |= 1ull << i;
+    return r;
+}
+
+static Machine dense(int n, int a, double density = 0.5) {
+    Machine m;
+    m.n = n;
+    m.a = a;
+    m.I = random_row(n, density);
+    m.F = random_row(n, density);
+    for (int l = 0; l < a; l++)
+        for (int i = 0; i < n; i++) m.T[l][i] = random_row(n, density);
+    return m;
+}
+
+// Only 0^k, over a letters.
+static Machine only(int k, int a) {
+    Machine m;
+    m.n = k + 1;
+    m.a = a;
+    m.I = 1;
+    m.F = 1ull << k;
+    for (int l = 0; l < a; l++)
+        for (int i = 0; i <= k; i++) m.T[l][i] = l == 0 && i < k ? 2ull << i : 0;
+    return m;
+}
+
+// Nothing is accepted, though every row can be reached.
+static Machine no_final(Machine m) {
+    m.F = 0;
+    return m;
+}
+
+// The same language in another basis: state i gains state j.
+static void change_basis(Machine& m, int i, int j) {
+    auto column = [&](u64& v) { v ^= (v >> i & 1) << j; };
+    column(m.I);
+    m.F ^= (m.F >> j & 1) << i;
+    for (int l = 0; l < m.a; l++) {
+        for (int r = 0; r < m.n; r++) column(m.T[l][r]);
+        m.T[l][i] ^= m.T[l][j];
+    }
+}
+
+static Machine other_basis(Machine m) {
+    for (int k = 0; k < 6 * m.n && m.n > 1; k++) {
+        int i = random64() % m.n, j = random64() % m.n;
+        if (i != j) change_basis(m, i, j);
+    }
+    return m;
+}
+
+static Bytes record_of(const Machine& m) {
+    Bytes r(15 + 4 * m.a * m.n);
+    write_record(m, r.data());
+    return r;
+}
+
+// ---- times
+
+static double seconds() {
+    timespec t;
+    clock_gettime(CLOCK_THREAD_CPUTIME_ID, &t);
+    return t.tv_sec + t.tv_nsec * 1e-9;
+}
+
+static volatile size_t sink;
+
+// The fastest of many rounds over all inputs, in microseconds for one call.
+template <class F> static double fastest(size_t inputs, double budget, F call) {
+    size_t rounds = 1;
+    double best = 1e9, spent = 0;
+    for (int tries = 0; spent < budget || tries < 5; tries++) {
+        double from = seconds();
+        for (size_t r = 0; r < rounds; r++)
+            for (size_t i = 0; i < inputs; i++) call(i);
+        double took = seconds() - from;
+        spent += took;
+        if (took < 50e-6) rounds *= 2;
+        best = std::min(best, took / (rounds * inputs));
+    }
+    return best * 1e6;
+}
+
+static void line(const std::string& name, double plain, double tuned, double proved) {
+    std::printf("%-40s %8.2f %8.2f %8.2f   %6.2f %6.2f\n", name.c_str(), plain, tuned, proved, proved / plain, proved / tuned);
+}
+
+static void time_minimal(const std::string& name, const std::vector<Bytes>& in, double budget) {
+    u8 out[NXA_RECORD_MAX];
+    double p = fastest(in.size(), budget, [&](size_t i) { sink = minimal(in[i].data(), in[i].size(), out, sizeof out).dim; });
+    double t = fastest(in.size(), budget, [&](size_t i) { sink = tuned::minimal(in[i].data(), in[i].size(), out, sizeof out).dim; });
+    double v = fastest(in.size(), budget, [&](size_t i) { sink = nxa_minimal(in[i].data(), in[i].size(), out, sizeof out).value; });
+    line("minimal " + name, p, t, v);
+}
+
+static void time_compare(const std::string& name, const std::vector<Pair>& in, double budget) {
+    u8 w[64];
+    auto first = [&](size_t i) { return in[i].first.data(); };
+    auto second = [&](size_t i) { return in[i].second.data(); };
+    double p = fastest(in.size(), budget, [&](size_t i) { sink = compare(first(i), in[i].first.size(), second(i), in[i].second.size(), w, 64).len; });
+    double t = fastest(in.size(), budget, [&](size_t i) { sink = tuned::compare(first(i), in[i].first.size(), second(i), in[i].second.size(), w, 64).len; });
+    double v = fastest(in.size(), budget, [&](size_t i) { sink = nxa_compare(first(i), in[i].first.size(), second(i), in[i].second.size(), w, 64).length; });
+    line("compare " + name, p, t, v);
+}
+
+// ---- agreement
+
+static void disagree(const char* what) {
+    std::printf("DISAGREE %s\n", what);
+    std::exit(1);
+}
+
+static void agree(int cases) {
+    for (int k = 0; k < cases; k++) {
+        int n = random64() % 33, a = 1 + random64() % 8;
+        Machine m = dense(n, a, (random64() % 5) * 0.2 + 0.05);
+        Machine o = random64() % 2 ? other_basis(m) : dense(random64() % 33, a, 0.3);
+        Bytes x = record_of(m), y = record_of(o);
+        u8 b[2][NXA_RECORD_MAX], w[2][64];
+        std::memset(b, 0xEE, sizeof b);
+        std::memset(w, 0xEE, sizeof w);
+        MinAnswer p = minimal(x.data(), x.size(), b[0], NXA_RECORD_MAX);
+        nxa_reply v = nxa_minimal(x.data(), x.size(), b[1], NXA_RECORD_MAX);
+        if ((size_t)p.dim != v.value || (size_t)p.len != v.length || std::memcmp(b[0], b[1], NXA_RECORD_MAX)) disagree("minimal");
+        CmpAnswer q = compare(x.data(), x.size(), y.data(), y.size(), w[0], 64);
+        nxa_reply c = nxa_compare(x.data(), x.size(), y.data(), y.size(), w[1], 64);
+        if ((q.kind == 0) != (c.value == 0) || (q.kind == 1 && (size_t)q.len != c.length) || std::memcmp(w[0], w[1], 64)) disagree("compare");
+    }
+    std::printf("%d random machines and pairs agree\n", cases);
+}
+
+int main(int argc, char** argv) {
+    double budget = argc > 1 ? std::atof(argv[1]) : 0.15;
+    agree(20000);
+    std::printf("%-40s %8s %8s %8s   %6s %6s\n", "microseconds for one call", "plain", "tuned", "proved", "/plain", "/tuned");
+    for (int n : {8, 16, 32})
+        for (int a : {1, 2, 8}) {
+            std::string size = " n=" + std::to_string(n) + " a=" + std::to_string(a);
+            std::vector<Bytes> in;
+            std::vector<Pair> early, same;
+            for (int i = 0; i < 128; i++) {
+                Machine m = dense(n, a);
+                in.push_back(record_of(m));
+                early.push_back({record_of(m), record_of(dense(n, a))});
+                same.push_back({record_of(m), record_of(other_basis(m))});
+            }
+            time_minimal("random dense" + size, in, budget);
+            time_compare("that differs early" + size, early, budget);
+            time_compare("same language, two bases" + size, same, budget);
+        }
+    std::vector<Bytes> thick;
+    std::vector<Pair> nothing;
+    for (int i = 0; i < 128; i++) {
+        thick.push_back(record_of(dense(32, 8, 0.9)));
+        nothing.push_back({record_of(no_final(dense(32, 8))), record_of(no_final(dense(32, 8)))});
+    }
+    time_minimal("density 0.9 n=32 a=8", thick, budget);
+    time_minimal("only 0^31 a=1", {record_of(only(31, 1))}, budget);
+    time_minimal("only 0^31 a=8", {record_of(only(31, 8))}, budget);
+    time_compare("of two empty languages n=32 a=8", nothing, budget);
+}
