@@ -4,13 +4,12 @@ ghost use mathlib.Core.Bool.{true};
 ghost use mathlib.Core.List.{List};
 ghost use Prim.Native.Nat.{ℕ, _+_, _<_};
 ghost use lib.ListN.{length, take};
-ghost use Rattle.automata.specs.Automaton.{accepts};
 ghost use Rattle.automata.specs.Language.{Same};
 ghost use Rattle.automata.specs.Dimension.{IsDimension};
 ghost use Rattle.automata.specs.FirstDifference.{FirstDifference};
 ghost use Rattle.rows.specs.Table.{size};
 ghost use Rattle.comparison.specs.Sum.{Judged};
-ghost use Rattle.record.specs.Record.{lettersOf, WellFormed, automatonOf};
+ghost use Rattle.record.specs.Record.{lettersOf, WellFormed, automatonOf, languageOf};
 ghost use Rattle.record.specs.Outcome.{bufferOf};
 ghost use Rattle.compare.specs.Compare.{differenceOf, compareOutcome, sideOf, acceptorOf, refusedAs, comparedAs};
 use comparison::Verdict;
@@ -83,9 +82,9 @@ pub fn judge(first: &[u8], second: &[u8], b: &mut Table) -> Verdict
 pub fn compare(first: &[u8], second: &[u8], word: &mut [u8]) -> Compared
     ensures answer { λ r. ⌜ r ≡ comparedAs (differenceOf (now (first .entry)) (now (second .entry))) (automatonOf (now (first .entry))) (compareOutcome (now (first .entry)) (now (second .entry)) (length (now (word .entry)))) ⌝ }
     ensures buffer { λ _. ⌜ now (word .exit) ≡ bufferOf (compareOutcome (now (first .entry)) (now (second .entry)) (length (now (word .entry)))) (now (word .entry)) ⌝ }
-    ensures same { λ r. ⌜ (WellFormed (now (first .entry)) → WellFormed (now (second .entry)) → lettersOf (now (first .entry)) ≡ lettersOf (now (second .entry)) → (r ≡ Compared.Same → Same (lettersOf (now (first .entry))) (accepts (automatonOf (now (first .entry)))) (accepts (automatonOf (now (second .entry))))) × (Same (lettersOf (now (first .entry))) (accepts (automatonOf (now (first .entry)))) (accepts (automatonOf (now (second .entry)))) → r ≡ Compared.Same)) ⌝ }
-    ensures first { λ r. ⌜ ((n : ℕ) (s : Side) → r ≡ Compared.Differs n s → FirstDifference (lettersOf (now (first .entry))) (accepts (automatonOf (now (first .entry)))) (accepts (automatonOf (now (second .entry)))) (take n (now (word .exit))) × (accepts (automatonOf (acceptorOf s (now (first .entry)) (now (second .entry)))) (take n (now (word .exit))) ≡ true) × ((d e : ℕ) → IsDimension (lettersOf (now (first .entry))) (accepts (automatonOf (now (first .entry)))) d → IsDimension (lettersOf (now (first .entry))) (accepts (automatonOf (now (second .entry)))) e → n < d + e)) ⌝ }
-    ensures withheld { λ r. ⌜ (WellFormed (now (first .entry)) → WellFormed (now (second .entry)) → lettersOf (now (first .entry)) ≡ lettersOf (now (second .entry)) → (w : List ℕ) → FirstDifference (lettersOf (now (first .entry))) (accepts (automatonOf (now (first .entry)))) (accepts (automatonOf (now (second .entry)))) w → (length (now (word .entry)) < length w → r ≡ Compared.Refused 12 0 (length w)) × ((k : ℕ) → r ≡ Compared.Refused 12 0 k → (k ≡ length w) × (length (now (word .entry)) < length w))) ⌝ }
+    ensures same { λ r. ⌜ (WellFormed (now (first .entry)) → WellFormed (now (second .entry)) → lettersOf (now (first .entry)) ≡ lettersOf (now (second .entry)) → (r ≡ Compared.Same → Same (lettersOf (now (first .entry))) (languageOf (now (first .entry))) (languageOf (now (second .entry)))) × (Same (lettersOf (now (first .entry))) (languageOf (now (first .entry))) (languageOf (now (second .entry))) → r ≡ Compared.Same)) ⌝ }
+    ensures first { λ r. ⌜ ((n : ℕ) (s : Side) → r ≡ Compared.Differs n s → FirstDifference (lettersOf (now (first .entry))) (languageOf (now (first .entry))) (languageOf (now (second .entry))) (take n (now (word .exit))) × (languageOf (acceptorOf s (now (first .entry)) (now (second .entry))) (take n (now (word .exit))) ≡ true) × ((d e : ℕ) → IsDimension (lettersOf (now (first .entry))) (languageOf (now (first .entry))) d → IsDimension (lettersOf (now (first .entry))) (languageOf (now (second .entry))) e → n < d + e)) ⌝ }
+    ensures withheld { λ r. ⌜ (WellFormed (now (first .entry)) → WellFormed (now (second .entry)) → lettersOf (now (first .entry)) ≡ lettersOf (now (second .entry)) → (w : List ℕ) → FirstDifference (lettersOf (now (first .entry))) (languageOf (now (first .entry))) (languageOf (now (second .entry))) w → (length (now (word .entry)) < length w → r ≡ Compared.Refused 12 0 (length w)) × ((k : ℕ) → r ≡ Compared.Refused 12 0 k → (k ≡ length w) × (length (now (word .entry)) < length w))) ⌝ }
 {
     let p = operands::check_pair(first, second);
     let Pair::Both = p else {

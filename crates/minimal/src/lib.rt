@@ -12,7 +12,7 @@ ghost use Rattle.automata.specs.MinimalOf.{dimensionOf};
 ghost use Rattle.rows.specs.Row.{mask};
 ghost use Rattle.rows.specs.Table.{size};
 ghost use Rattle.reduction.specs.Tables.{Minimises};
-ghost use Rattle.record.specs.Record.{statesOf, lettersOf, WellFormed, automatonOf, rowBytes, initialAt, finalAt};
+ghost use Rattle.record.specs.Record.{statesOf, lettersOf, WellFormed, automatonOf, languageOf, rowBytes, initialAt, finalAt};
 ghost use Rattle.record.specs.Bytes.{number};
 ghost use Rattle.record.specs.Outcome.{answerOf, bufferOf};
 ghost use Rattle.minimal.specs.Minimal.{minimalBytes, minimalOutcome, minimisedAs};
@@ -78,12 +78,12 @@ pub fn minimal(bytes: &[u8], out: &mut [u8]) -> Minimised
     ensures answer { λ r. ⌜ r ≡ minimisedAs (dimensionOf (lettersOf (now (bytes .entry))) (automatonOf (now (bytes .entry)))) (answerOf (minimalOutcome (now (bytes .entry)) (length (now (out .entry))))) ⌝ }
     ensures buffer { λ _. ⌜ now (out .exit) ≡ bufferOf (minimalOutcome (now (bytes .entry)) (length (now (out .entry)))) (now (out .entry)) ⌝ }
     ensures form { λ r. ⌜ ((n d : ℕ) → r ≡ Minimised.Done n d → WellFormed (take n (now (out .exit))) × (lettersOf (take n (now (out .exit))) ≡ lettersOf (now (bytes .entry))) × (statesOf (take n (now (out .exit))) ≡ d)) ⌝ }
-    ensures words { λ r. ⌜ ((n d : ℕ) → r ≡ Minimised.Done n d → Same (lettersOf (now (bytes .entry))) (accepts (automatonOf (now (bytes .entry)))) (accepts (automatonOf (take n (now (out .exit)))))) ⌝ }
-    ensures basis { λ r. ⌜ ((n d : ℕ) → r ≡ Minimised.Done n d → (ws : List (List ℕ)) × Minimal (lettersOf (now (bytes .entry))) (accepts (automatonOf (now (bytes .entry)))) (automatonOf (take n (now (out .exit)))) ws) ⌝ }
-    ensures empty { λ r. ⌜ ((n d : ℕ) → r ≡ Minimised.Done n d → Same (lettersOf (now (bytes .entry))) (accepts (automatonOf (now (bytes .entry)))) (λ w. false) → (d ≡ 0) × (number rowBytes (take n (now (out .exit))) initialAt ≡ 0) × (number rowBytes (take n (now (out .exit))) finalAt ≡ 0)) ⌝ }
-    ensures dimension { λ r. ⌜ ((n d : ℕ) → r ≡ Minimised.Done n d → IsDimension (lettersOf (now (bytes .entry))) (accepts (automatonOf (now (bytes .entry)))) d) ⌝ }
-    ensures least { λ r. ⌜ ((n d : ℕ) → r ≡ Minimised.Done n d → (A : Automaton) → Same (lettersOf (now (bytes .entry))) (accepts (automatonOf (now (bytes .entry)))) (accepts A) → d ≤ A .states) ⌝ }
-    ensures unique { λ r. ⌜ ((n d : ℕ) → r ≡ Minimised.Done n d → (cs : List ℕ) → WellFormed cs → lettersOf cs ≡ lettersOf (now (bytes .entry)) → (take n (now (out .exit)) ≡ minimalBytes cs → Same (lettersOf (now (bytes .entry))) (accepts (automatonOf (now (bytes .entry)))) (accepts (automatonOf cs))) × (Same (lettersOf (now (bytes .entry))) (accepts (automatonOf (now (bytes .entry)))) (accepts (automatonOf cs)) → take n (now (out .exit)) ≡ minimalBytes cs)) ⌝ }
+    ensures words { λ r. ⌜ ((n d : ℕ) → r ≡ Minimised.Done n d → Same (lettersOf (now (bytes .entry))) (languageOf (now (bytes .entry))) (languageOf (take n (now (out .exit))))) ⌝ }
+    ensures basis { λ r. ⌜ ((n d : ℕ) → r ≡ Minimised.Done n d → (ws : List (List ℕ)) × Minimal (lettersOf (now (bytes .entry))) (languageOf (now (bytes .entry))) (automatonOf (take n (now (out .exit)))) ws) ⌝ }
+    ensures empty { λ r. ⌜ ((n d : ℕ) → r ≡ Minimised.Done n d → Same (lettersOf (now (bytes .entry))) (languageOf (now (bytes .entry))) (λ w. false) → (d ≡ 0) × (number rowBytes (take n (now (out .exit))) initialAt ≡ 0) × (number rowBytes (take n (now (out .exit))) finalAt ≡ 0)) ⌝ }
+    ensures dimension { λ r. ⌜ ((n d : ℕ) → r ≡ Minimised.Done n d → IsDimension (lettersOf (now (bytes .entry))) (languageOf (now (bytes .entry))) d) ⌝ }
+    ensures least { λ r. ⌜ ((n d : ℕ) → r ≡ Minimised.Done n d → (A : Automaton) → Same (lettersOf (now (bytes .entry))) (languageOf (now (bytes .entry))) (accepts A) → d ≤ A .states) ⌝ }
+    ensures unique { λ r. ⌜ ((n d : ℕ) → r ≡ Minimised.Done n d → (cs : List ℕ) → WellFormed cs → lettersOf cs ≡ lettersOf (now (bytes .entry)) → (take n (now (out .exit)) ≡ minimalBytes cs → Same (lettersOf (now (bytes .entry))) (languageOf (now (bytes .entry))) (languageOf cs)) × (Same (lettersOf (now (bytes .entry))) (languageOf (now (bytes .entry))) (languageOf cs) → take n (now (out .exit)) ≡ minimalBytes cs)) ⌝ }
 {
     let c = record::check(bytes);
     let Checked::Good = c else {

@@ -7,6 +7,7 @@
 --   checkOf bs        rows 1 to 7: the record check
 --   WellFormed bs     the record meets none of their conditions
 --   automatonOf bs    the machine of a well-formed record
+--   languageOf bs     the words that the record accepts
 --   encode a A        the record of an automaton over a letters
 use mathlib.Core.Path.{_≡_}
 use mathlib.Core.Bool.{Bool, true, false, not, _||_}
@@ -14,7 +15,8 @@ use mathlib.Core.List.{List, [], _∷_, _++_}
 use Prim.Native.Nat.{ℕ, zero, suc, _+_, _*_, _^_}
 use lib.ListN.{length, getD, drop}
 use lib.Dec.{ltb, leb, eqb}
-use Rattle.automata.specs.Automaton.{Automaton}
+use Rattle.automata.specs.Automaton.{Automaton, accepts}
+use Rattle.automata.specs.Language.{Language}
 use Rattle.automata.specs.Mask.{bitOf}
 use Rattle.automata.specs.Fields.{fields}
 use Rattle.record.specs.Bytes.{number, allBytes}
@@ -117,6 +119,10 @@ automatonOf bs = record {
   final = bitOf (number rowBytes bs finalAt);
   step = λ l i. bitOf (rowAt bs l i);
 }
+
+-- The words that the record accepts are those that its machine accepts (01: its language).
+abbrev pub languageOf : List ℕ → Language
+languageOf bs = accepts (automatonOf bs)
 
 -- The bytes before the first row: mark, version, n, a.
 abbrev pub headOf : ℕ → ℕ → List ℕ
