@@ -146,6 +146,19 @@ minimal-unique a L K A B bs cs same M N =
     let N′ : Minimal a L B cs = minimal-same a K L B cs (same-sym a L K same) N in
     minimal-bits a L A B bs M (rw (← same-basis a L bs cs (M .words) (N′ .words)) at N′)
 
+-- What has the bits of a minimal automaton is minimal.
+pub bits-minimal : (a : ℕ) (L : Language) (A B : Automaton) (bs : List (List ℕ)) → SameBits a B A → Minimal a L A bs → Minimal a L B bs
+bits-minimal a L A B bs s M = record {
+  words = M .words;
+  size = s .states ∙ M .size;
+  starts = λ k h. s .initial k (inside k h) ∙ M .starts k h;
+  ends = λ k h. s .final k (inside k h) ∙ M .ends k h;
+  rows = λ l k hl hk v ov. M .rows l k hl hk v ov ∙ xor-cong (length bs) (λ j p. ap (λ b. b && L (getD bs j [] ++ v)) (sym (s .step l k j hl (inside k hk) (inside j p))));
+}
+  where
+    inside : (k : ℕ) → k < length bs → k < B .states
+    inside k h = omega (arith, s .states, M .size)
+
 sum-cong : (k : ℕ) {f g : ℕ → ℕ} → ((i : ℕ) → i < k → f i ≡ g i) → sumBelow k f ≡ sumBelow k g
 sum-cong zero h = refl
 sum-cong (suc k) {f} {g} h = rw (sum-cong k {f = f} {g = g} (λ i p. h i (omega arith)), h k (omega arith))

@@ -1,36 +1,19 @@
 -- Each entry is minimal: antt computes the minimal automaton and the basis words of all six, and they are the entry and its list.
-use mathlib.Core.Path.{_≡_, refl, sym, ap, subst, _∙_}
-use mathlib.Core.Bool.{_&&_}
-use mathlib.Core.List.{List, [], _++_}
-use Prim.Native.Nat.{ℕ, _≤_, _<_}
+use mathlib.Core.Path.{_≡_, refl, sym, subst}
+use Prim.Native.Nat.{ℕ, _≤_}
 use native.Mathlib.Omega.{arith}
-use lib.ListN.{length, getD}
 use Rattle.automata.specs.Automaton.{Automaton, accepts}
-use Rattle.automata.specs.Language.{Language}
 use Rattle.automata.specs.Dimension.{IsDimension}
-use Rattle.automata.specs.Minimal.{Minimal, SameBits}
+use Rattle.automata.specs.Minimal.{Minimal}
 use Rattle.automata.specs.MinimalOf.{basisWords, minimalOf}
 use Rattle.automata.specs.Fields.{fields}
-use Rattle.automata.proofs.Xor.{xor-cong}
-use Rattle.automata.proofs.Minimal.{minimal-dimension, minimal-same, same-sym}
+use Rattle.automata.proofs.Minimal.{minimal-dimension, minimal-same, same-sym, bits-minimal}
 use Rattle.automata.proofs.MinimalOf.{minimal-of}
 use Rattle.automata.proofs.Fields.{fields-bits}
 use Rattle.catalogue.specs.Words.{wordsOf}
 use Rattle.catalogue.specs.Entries.{last, lettersAt, entryOf, basisAt}
 use Rattle.catalogue.proofs.Table.{each}
 use Rattle.catalogue.proofs.Words.{entry-size, entry-words}
-
--- The same bits are as minimal.
-minimal-bits : (a : ℕ) (L : Language) (A B : Automaton) (bs : List (List ℕ)) → SameBits a A B → Minimal a L A bs → Minimal a L B bs
-minimal-bits a L A B bs s M =
-    let in-A : (k : ℕ) → k < length bs → k < A .states = λ k h. omega (arith, M .size) in
-    record {
-      words = M .words;
-      size = sym (s .states) ∙ M .size;
-      starts = λ k h. sym (s .initial k (in-A k h)) ∙ M .starts k h;
-      ends = λ k h. sym (s .final k (in-A k h)) ∙ M .ends k h;
-      rows = λ l k hl hk v ov. M .rows l k hl hk v ov ∙ xor-cong (length bs) (λ i p. ap (λ b. b && L (getD bs i [] ++ v)) (s .step l k i hl (in-A k hk) (in-A i p)));
-    }
 
 module _ (j : ℕ) (h : j ≤ last) where
   pub entry-fields : fields (lettersAt j) (minimalOf (lettersAt j) (entryOf j)) ≡ fields (lettersAt j) (entryOf j)
@@ -47,7 +30,7 @@ module _ (j : ℕ) (h : j ≤ last) where
       let A : Automaton = entryOf j in
       minimal-same a (accepts A) (wordsOf j) A (basisAt j) (same-sym a (wordsOf j) (accepts A) (entry-words j h))
       (subst (Minimal a (accepts A) A) entry-basis
-      (minimal-bits a (accepts A) (minimalOf a A) A (basisWords a (A .states) (accepts A)) (fields-bits a (minimalOf a A) A entry-fields) (minimal-of a A)))
+      (bits-minimal a (accepts A) (minimalOf a A) A (basisWords a (A .states) (accepts A)) (fields-bits a A (minimalOf a A) (sym entry-fields)) (minimal-of a A)))
 
   pub entry-dimension : IsDimension (lettersAt j) (wordsOf j) (entryOf j .states)
   entry-dimension = subst (IsDimension (lettersAt j) (wordsOf j)) (sym (entry-size j h)) (minimal-dimension (lettersAt j) (wordsOf j) (entryOf j) (basisAt j) entry-minimal)

@@ -1,18 +1,17 @@
 -- What the minimal record is: its words, its dimension, that no automaton has fewer states, and that it is the only one.
 use mathlib.Core.Path.{_≡_, refl, sym, ap, subst, _∙_}
-use mathlib.Core.Bool.{false, _&&_}
-use mathlib.Core.List.{List, []}
+use mathlib.Core.Bool.{false}
+use mathlib.Core.List.{List}
 use Prim.Native.Nat.{ℕ, _+_, _*_, _^_, _≤_, _<_}
 use native.Mathlib.Omega.{arith}
-use lib.ListN.{length, getD, take}
+use lib.ListN.{length, take}
 use Rattle.automata.specs.Automaton.{Automaton, accepts}
-use Rattle.automata.specs.Language.{Language, Same}
-use Rattle.automata.specs.Dimension.{IsDimension, quotients}
-use Rattle.automata.specs.Minimal.{Minimal, SameBits}
+use Rattle.automata.specs.Language.{Same}
+use Rattle.automata.specs.Dimension.{IsDimension}
+use Rattle.automata.specs.Minimal.{Minimal}
 use Rattle.automata.specs.MinimalOf.{basisWords, minimalOf, dimensionOf}
-use Rattle.automata.proofs.Xor.{xor-cong}
 use Rattle.automata.proofs.MinimalOf.{minimal-of}
-use Rattle.automata.proofs.Minimal.{bits-language}
+use Rattle.automata.proofs.Minimal.{bits-minimal, bits-language}
 use Rattle.automata.proofs.Dimension.{minimal-states, minimal-language, dimension-of, dimension-least}
 use Rattle.automata.proofs.Fields.{same-fields, fields-same}
 use Rattle.record.specs.Record.{statesOf, lettersOf, checkOf, WellFormed, automatonOf, encode, maxStates, rowBytes, initialAt, finalAt}
@@ -52,25 +51,12 @@ minimal-fits bs good a =
 abbrev noStates : Automaton
 noStates = record { states = 0; initial = λ i. false; final = λ i. false; step = λ l i j. false }
 
--- What has the bits of a minimal automaton is minimal.
-minimal-bits : (a : ℕ) (L : Language) (A B : Automaton) (ws : List (List ℕ)) → SameBits a B A → Minimal a L A ws → Minimal a L B ws
-minimal-bits a L A B ws s M = record {
-  words = M .words;
-  size = s .states ∙ M .size;
-  starts = λ k h. s .initial k (in-b k h) ∙ M .starts k h;
-  ends = λ k h. s .final k (in-b k h) ∙ M .ends k h;
-  rows = λ l k hl hk v ov. M .rows l k hl hk v ov ∙ xor-cong (length ws) (λ j p. ap (λ b. b && quotients L (λ i. getD ws i []) j v) (sym (s .step l k j hl (in-b k hk) (in-b j p))));
-}
-  where
-    in-b : (k : ℕ) → k < length ws → k < B .states
-    in-b k h = omega (arith, s .states, M .size)
-
 pub minimal-record : (bs : List ℕ) → WellFormed bs → MinimalRecord bs (minimalBytes bs) (dimensionOf (lettersOf bs) (automatonOf bs))
 unfolding minimalBytes
 minimal-record bs good = record {
   form = (check-encode a M small (f .some) (f .letters), letters-encode a M, states-encode a M ∙ minimal-states a A);
   words = λ w ow. minimal-language a A w ow ∙ sym (bits-language a (automatonOf (encode a M)) M (bits-encode a M small) w ow);
-  basis = (basisWords a (A .states) (accepts A), minimal-bits a (accepts A) M (automatonOf (encode a M)) (basisWords a (A .states) (accepts A)) (bits-encode a M small) (minimal-of a A));
+  basis = (basisWords a (A .states) (accepts A), bits-minimal a (accepts A) M (automatonOf (encode a M)) (basisWords a (A .states) (accepts A)) (bits-encode a M small) (minimal-of a A));
   empty = none;
   dimension = dimension-of a A;
   least = λ B same. dimension-least a A B same;
