@@ -1,0 +1,128 @@
+-- Number 0 grants: no refusal has it, so a reply with number 0 tells that the service did its work.
+use mathlib.Core.Path.{_≡_, refl, sym, ap, _∙_}
+use mathlib.Core.Bool.{Bool, true, false, cond, not, _||_}
+use mathlib.Core.List.{List}
+use Prim.Native.Nat.{ℕ, zero, suc, _+_, _*_, _≤_, _^_}
+use native.Mathlib.Omega.{arith}
+use lib.Dec.{ltb, leb, eqb}
+use lib.ListN.{length, getD}
+use Rattle.record.specs.Bytes.{number}
+use Rattle.record.specs.Record.{version, maxStates, maxLetters, header, rowBytes, initialAt, statesOf, lettersOf, needOf, row, andThen, frontOf, strayFrom, checkOf, WellFormed}
+use Rattle.record.specs.Outcome.{Outcome, refused, wrote, answerOf, checked, fit}
+use Rattle.record.specs.declared.Checked.{Checked}
+use Rattle.record.specs.declared.Checked.the-variants.{Good, Refused}
+use Rattle.record.specs.declared.Written.{Written}
+use Rattle.record.specs.declared.Written.the-variants.{Done as Wrote}
+use Rattle.minimal.specs.Minimal.{minimalBytes, minimalOutcome, minimisedAs}
+use Rattle.minimal.specs.declared.Minimised.{Minimised}
+use Rattle.minimal.specs.declared.Minimised.the-variants.{Done}
+use Rattle.nxa.specs.declared.Reply.{Reply}
+use Rattle.catalogue.specs.Entries.{last, recordOf, catalogueOf}
+use Rattle.nxa.specs.Reply.{ofChecked, ofWritten, ofMinimised}
+
+-- ---- the record check
+
+-- A refusal has a number from 1 on.
+abbrev pub Numbered : Checked → Type 0
+Numbered c = (k p : ℕ) → c ≡ Refused k p → 1 ≤ k
+
+good : Numbered Good
+good k p e = let z : _≡_ {A = ℕ} 0 1 = cc in absurd (omega arith)
+
+row-numbered : (b : Bool) (code place : ℕ) (rest : Checked) → 1 ≤ code → Numbered rest → Numbered (row b code place rest)
+row-numbered true code place rest h r k p e = let s : code ≡ k = cc in omega arith
+row-numbered false code place rest h r k p e = r k p e
+
+then-numbered : (c rest : Checked) → Numbered c → Numbered rest → Numbered (andThen c rest)
+then-numbered Good rest n r = r
+then-numbered (Refused code place) rest n r = n
+
+front-numbered : (bs : List ℕ) → Numbered (frontOf bs)
+unfolding frontOf
+front-numbered bs =
+    row-numbered (ltb (length bs) header) 1 (length bs) _ (omega arith)
+    (row-numbered (not (eqb (getD bs 0 0) 0x4E)) 2 0 _ (omega arith)
+    (row-numbered (not (eqb (getD bs 1 0) 0x58)) 2 1 _ (omega arith)
+    (row-numbered (not (eqb (getD bs 2 0) 0x41)) 2 2 _ (omega arith)
+    (row-numbered (not (eqb (number 2 bs 3) version)) 3 3 _ (omega arith)
+    (row-numbered (ltb maxStates (statesOf bs)) 4 5 _ (omega arith)
+    (row-numbered (eqb (lettersOf bs) 0 || ltb maxLetters (lettersOf bs)) 5 6 Good (omega arith) good))))))
+
+stray-numbered : (w n : ℕ) (bs : List ℕ) (k p : ℕ) → Numbered (strayFrom w n bs k p)
+unfolding strayFrom
+stray-numbered w n bs zero p = good
+stray-numbered w n bs (suc k) p =
+    row-numbered (leb (2 ^ n) (number w bs p)) 7 p (strayFrom w n bs k (p + w)) (omega arith) (stray-numbered w n bs k (p + w))
+
+pub check-numbered : (bs : List ℕ) → Numbered (checkOf bs)
+unfolding checkOf
+check-numbered bs =
+    then-numbered (frontOf bs) _ (front-numbered bs)
+    (row-numbered (not (eqb (length bs) (needOf bs))) 6 (needOf bs) _ (omega arith)
+    (stray-numbered rowBytes (statesOf bs) bs (2 + lettersOf bs * statesOf bs) initialAt))
+
+good-numbered : (c : Checked) → Numbered c → ofChecked c .number ≡ 0 → c ≡ Good
+good-numbered Good n e = refl
+good-numbered (Refused code place) n e = absurd (omega (arith, n code place refl))
+
+module _ (bs : List ℕ) (r : Reply) (told : r ≡ ofChecked (checkOf bs)) where
+  pub check-granted : r .number ≡ 0 → WellFormed bs
+  check-granted e = good-numbered (checkOf bs) (check-numbered bs) (sym (ap (λ x. x .number) told) ∙ e)
+
+  pub check-grants : WellFormed bs → r .number ≡ 0
+  check-grants e = ap (λ x. x .number) told ∙ ap (λ c. ofChecked c .number) e
+
+-- ---- services that write
+
+abbrev pub Reasoned : Outcome → Type 0
+Reasoned (refused code which place) = 1 ≤ code
+Reasoned (wrote out) = Unit {0}
+
+checked-reasoned : (c : Checked) (which : ℕ) (rest : Outcome) → Numbered c → Reasoned rest → Reasoned (checked c which rest)
+checked-reasoned Good which rest n r = r
+checked-reasoned (Refused code place) which rest n r = n code place refl
+
+pub fit-reasoned : (room : ℕ) (out : List ℕ) → Reasoned (fit room out)
+unfolding fit
+fit-reasoned room out = go (ltb room (length out))
+  where
+    go : (b : Bool) → Reasoned (cond b (refused 12 0 (length out)) (wrote out))
+    go true = omega arith
+    go false = tt
+
+minimal-reasoned : (bs : List ℕ) (room : ℕ) → Reasoned (minimalOutcome bs room)
+unfolding minimalOutcome
+minimal-reasoned bs room = checked-reasoned (checkOf bs) 1 _ (check-numbered bs) (fit-reasoned room (minimalBytes bs))
+
+minimal-done : (o : Outcome) (d : ℕ) → Reasoned o → ofMinimised (minimisedAs d (answerOf o)) .number ≡ 0
+    → minimisedAs d (answerOf o) ≡ Done (ofMinimised (minimisedAs d (answerOf o)) .length) (ofMinimised (minimisedAs d (answerOf o)) .value)
+minimal-done (refused code which place) d n e = absurd (omega arith)
+minimal-done (wrote out) d n e = refl
+
+-- The answer behind a reply of the minimal service with number 0.
+pub minimal-granted : (bs : List ℕ) (room d : ℕ) (m : Minimised) (r : Reply) → m ≡ minimisedAs d (answerOf (minimalOutcome bs room))
+    → r ≡ ofMinimised m → r .number ≡ 0 → m ≡ Done (r .length) (r .value)
+minimal-granted bs room d m r answer told e =
+    let o = minimalOutcome bs room in
+    let t : r ≡ ofMinimised (minimisedAs d (answerOf o)) = told ∙ ap ofMinimised answer in
+    answer
+    ∙ minimal-done o d (minimal-reasoned bs room) (sym (ap (λ x. x .number) t) ∙ e)
+    ∙ ap (λ x. Done (x .length) (x .value)) (sym t)
+
+written-done : (o : Outcome) → Reasoned o → ofWritten (answerOf o) .number ≡ 0 → answerOf o ≡ Wrote (ofWritten (answerOf o) .length)
+written-done (refused code which place) n e = absurd (omega arith)
+written-done (wrote out) n e = refl
+
+-- The answer behind a reply with number 0 of a service that writes.
+pub written-granted : (o : Outcome) (w : Written) (r : Reply) → Reasoned o → w ≡ answerOf o → r ≡ ofWritten w → r .number ≡ 0 → w ≡ Wrote (r .length)
+written-granted o w r h answer told e =
+    let t : r ≡ ofWritten (answerOf o) = told ∙ ap ofWritten answer in
+    answer ∙ written-done o h (sym (ap (λ x. x .number) t) ∙ e) ∙ ap (λ x. Wrote (x .length)) (sym t)
+
+pub catalogue-reasoned : (number room : ℕ) → Reasoned (catalogueOf number room)
+unfolding catalogueOf
+catalogue-reasoned j room = go (ltb last j)
+  where
+    go : (b : Bool) → Reasoned (cond b (refused 13 0 j) (fit room (recordOf j)))
+    go true = omega arith
+    go false = fit-reasoned room (recordOf j)

@@ -1,0 +1,219 @@
+// The C interface: one export for each service. Each takes numbers and byte slices and replies with five numbers.
+ghost use mathlib.Core.Path.{_≡_};
+ghost use mathlib.Core.Bool.{true, false};
+ghost use mathlib.Core.List.{List};
+ghost use Prim.Native.Nat.{ℕ, _+_, _≤_, _<_};
+ghost use lib.ListN.{length, take};
+ghost use Rattle.automata.specs.Automaton.{Automaton, accepts};
+ghost use Rattle.automata.specs.Language.{Same};
+ghost use Rattle.automata.specs.Dimension.{IsDimension};
+ghost use Rattle.automata.specs.Minimal.{Minimal};
+ghost use Rattle.automata.specs.FirstDifference.{FirstDifference};
+ghost use Rattle.automata.specs.MinimalOf.{dimensionOf, minimalOf};
+ghost use Rattle.record.specs.Bytes.{number as numberAt};
+ghost use Rattle.record.specs.Record.{rowBytes, initialAt, finalAt, statesOf, lettersOf, checkOf, WellFormed, automatonOf, languageOf, encode};
+ghost use Rattle.record.specs.Outcome.{answerOf, bufferOf, rewriteOf};
+ghost use Rattle.testing.specs.Testing.{testOf};
+ghost use Rattle.minimal.specs.Minimal.{minimalBytes, minimalOutcome, minimisedAs};
+ghost use Rattle.compare.specs.Compare.{differenceOf, compareOutcome, acceptorOf, comparedAs};
+ghost use Rattle.compare.specs.declared.Side.{Side};
+ghost use Rattle.catalogue.specs.Words.{wordsOf};
+ghost use Rattle.catalogue.specs.Entries.{lettersAt, catalogueOf};
+ghost use Rattle.nxa.specs.Reply.{reply, refusal, ofChecked, ofWritten, ofTested, ofMinimised, sideNumber, ofCompared};
+use compare::Compared;
+use compare::Side;
+use minimal::Minimised;
+use record::Checked;
+use record::Written;
+use testing::Tested;
+
+// A reply: number 0 grants, any other is the refusal's. What a service has no use for is 0.
+#[repr(C)]
+pub struct Reply {
+    pub number: usize,
+    pub record: usize,
+    pub place: usize,
+    pub length: usize,
+    pub value: usize,
+}
+
+// A service that is granted: the bytes written, and what else it answers.
+fn grant(length: usize, value: usize) -> Reply
+    ensures { λ r. ⌜ r ≡ reply 0 0 0 length value ⌝ }
+{
+    Reply {
+        number: 0,
+        record: 0,
+        place: 0,
+        length: length,
+        value: value,
+    }
+}
+
+// A service that is refused.
+fn refuse(number: usize, record: usize, place: usize) -> Reply
+    ensures { λ r. ⌜ r ≡ refusal number «record» place ⌝ }
+{
+    Reply {
+        number: number,
+        record: record,
+        place: place,
+        length: 0,
+        value: 0,
+    }
+}
+
+// The reply of the record check, which has one record.
+fn of_checked(c: Checked) -> Reply
+    ensures { λ r. ⌜ r ≡ ofChecked c ⌝ }
+{
+    match c {
+        Checked::Good => grant(0, 0),
+        Checked::Refused { number, place } => refuse(number, 1, place),
+    }
+}
+
+// The reply of a service that writes.
+fn of_written(w: Written) -> Reply
+    ensures { λ r. ⌜ r ≡ ofWritten w ⌝ }
+{
+    match w {
+        Written::Done { length } => grant(length, 0),
+        Written::Refused {
+            number,
+            record,
+            place,
+        } => refuse(number, record, place),
+    }
+}
+
+// The reply of the test of a word.
+fn of_tested(t: Tested) -> Reply
+    ensures { λ r. ⌜ r ≡ ofTested t ⌝ }
+{
+    match t {
+        Tested::Accepted => grant(0, 1),
+        Tested::Rejected => grant(0, 0),
+        Tested::Refused {
+            number,
+            record,
+            place,
+        } => refuse(number, record, place),
+    }
+}
+
+// The reply of the minimal service.
+fn of_minimised(m: Minimised) -> Reply
+    ensures { λ r. ⌜ r ≡ ofMinimised m ⌝ }
+{
+    match m {
+        Minimised::Done { length, dimension } => grant(length, dimension),
+        Minimised::Refused {
+            number,
+            record,
+            place,
+        } => refuse(number, record, place),
+    }
+}
+
+// The number of the record that a side names.
+fn side_number(s: Side) -> usize
+    ensures { λ r. ⌜ r ≡ sideNumber s ⌝ }
+{
+    match s {
+        Side::First => 1,
+        Side::Second => 2,
+    }
+}
+
+// The reply of a comparison.
+fn of_compared(c: Compared) -> Reply
+    ensures { λ r. ⌜ r ≡ ofCompared c ⌝ }
+{
+    match c {
+        Compared::Same => grant(0, 0),
+        Compared::Differs { length, side } => grant(length, side_number(side)),
+        Compared::Refused {
+            number,
+            record,
+            place,
+        } => refuse(number, record, place),
+    }
+}
+
+// Checks a record. Number 0 comes exactly where it is well formed.
+#[no_mangle]
+pub extern "C" fn nxa_check(record: &[u8]) -> Reply
+    ensures reply { λ r. ⌜ r ≡ ofChecked (checkOf (now («record» .entry))) ⌝ }
+    ensures granted { λ r. ⌜ (r .number ≡ 0 → WellFormed (now («record» .entry))) × (WellFormed (now («record» .entry)) → r .number ≡ 0) ⌝ }
+{
+    of_checked(record::check(record))
+}
+
+// Reads a record into its fields and writes it afresh.
+#[no_mangle]
+pub extern "C" fn nxa_rewrite(record: &[u8], out: &mut [u8]) -> Reply
+    ensures reply { λ r. ⌜ r ≡ ofWritten (answerOf (rewriteOf (now («record» .entry)) (length (now (out .entry))))) ⌝ }
+    ensures buffer { λ _. ⌜ now (out .exit) ≡ bufferOf (rewriteOf (now («record» .entry)) (length (now (out .entry)))) (now (out .entry)) ⌝ }
+{
+    of_written(record::rewrite(record, out))
+}
+
+// Tests a word. Value 1: the record accepts it.
+#[no_mangle]
+pub extern "C" fn nxa_test(record: &[u8], word: &[u8]) -> Reply
+    ensures { λ r. ⌜ r ≡ ofTested (testOf (now («record» .entry)) (now (word .entry))) ⌝ }
+{
+    of_tested(testing::test(record, word))
+}
+
+// Writes the minimal record of a record. Where number is 0, of the first `length` bytes of the buffer:
+// `form`: they are a well-formed record over the record's letters with `value` states; `words`: it accepts exactly the record's words.
+// `basis`: it has one state for each basis word, in order, with I, F and rows as 01 says; `empty`: n, I and F are 0 for no word.
+// `dimension`: `value` is the dimension of the language; `least`: every xor automaton over the letters, of any size, that accepts
+// those words has at least `value` states; `unique`: the minimal record of any other well-formed record over the letters is byte for
+// byte the same exactly when its words are.
+#[no_mangle]
+pub extern "C" fn nxa_minimal(record: &[u8], out: &mut [u8]) -> Reply
+    ensures reply { λ r. ⌜ r ≡ ofMinimised (minimisedAs (dimensionOf (lettersOf (now («record» .entry))) (automatonOf (now («record» .entry)))) (answerOf (minimalOutcome (now («record» .entry)) (length (now (out .entry)))))) ⌝ }
+    ensures buffer { λ _. ⌜ now (out .exit) ≡ bufferOf (minimalOutcome (now («record» .entry)) (length (now (out .entry)))) (now (out .entry)) ⌝ }
+    ensures form { λ r. ⌜ (r .number ≡ 0 → WellFormed (take (r .length) (now (out .exit))) × (lettersOf (take (r .length) (now (out .exit))) ≡ lettersOf (now («record» .entry))) × (statesOf (take (r .length) (now (out .exit))) ≡ r .value)) ⌝ }
+    ensures words { λ r. ⌜ (r .number ≡ 0 → Same (lettersOf (now («record» .entry))) (languageOf (now («record» .entry))) (languageOf (take (r .length) (now (out .exit))))) ⌝ }
+    ensures basis { λ r. ⌜ (r .number ≡ 0 → (ws : List (List ℕ)) × Minimal (lettersOf (now («record» .entry))) (languageOf (now («record» .entry))) (automatonOf (take (r .length) (now (out .exit)))) ws) ⌝ }
+    ensures empty { λ r. ⌜ (r .number ≡ 0 → Same (lettersOf (now («record» .entry))) (languageOf (now («record» .entry))) (λ w. false) → (r .value ≡ 0) × (numberAt rowBytes (take (r .length) (now (out .exit))) initialAt ≡ 0) × (numberAt rowBytes (take (r .length) (now (out .exit))) finalAt ≡ 0)) ⌝ }
+    ensures dimension { λ r. ⌜ (r .number ≡ 0 → IsDimension (lettersOf (now («record» .entry))) (languageOf (now («record» .entry))) (r .value)) ⌝ }
+    ensures least { λ r. ⌜ (r .number ≡ 0 → (A : Automaton) → Same (lettersOf (now («record» .entry))) (languageOf (now («record» .entry))) (accepts A) → r .value ≤ A .states) ⌝ }
+    ensures unique { λ r. ⌜ (r .number ≡ 0 → (cs : List ℕ) → WellFormed cs → lettersOf cs ≡ lettersOf (now («record» .entry)) → (take (r .length) (now (out .exit)) ≡ minimalBytes cs → Same (lettersOf (now («record» .entry))) (languageOf (now («record» .entry))) (languageOf cs)) × (Same (lettersOf (now («record» .entry))) (languageOf (now («record» .entry))) (languageOf cs) → take (r .length) (now (out .exit)) ≡ minimalBytes cs)) ⌝ }
+{
+    of_minimised(minimal::minimal(record, out))
+}
+
+// Compares two records and writes the first word that just one accepts. For two well-formed records over the same letters:
+// `same`: number 0 and value 0 come exactly when every word over the letters, of any length, is accepted by both or by neither.
+// `first`: where number is 0 and value names a record, the first `length` bytes of the buffer are the first word in shortlex order that
+// just one accepts, the record named accepts it, and it has fewer letters than the two dimensions added.
+// `withheld`: refusal 12 comes exactly where the languages differ and the buffer is shorter than that word, its place the word's length.
+#[no_mangle]
+pub extern "C" fn nxa_compare(first: &[u8], second: &[u8], word: &mut [u8]) -> Reply
+    ensures reply { λ r. ⌜ r ≡ ofCompared (comparedAs (differenceOf (now (first .entry)) (now (second .entry))) (automatonOf (now (first .entry))) (compareOutcome (now (first .entry)) (now (second .entry)) (length (now (word .entry))))) ⌝ }
+    ensures buffer { λ _. ⌜ now (word .exit) ≡ bufferOf (compareOutcome (now (first .entry)) (now (second .entry)) (length (now (word .entry)))) (now (word .entry)) ⌝ }
+    ensures same { λ r. ⌜ (WellFormed (now (first .entry)) → WellFormed (now (second .entry)) → lettersOf (now (first .entry)) ≡ lettersOf (now (second .entry)) → ((r .number ≡ 0) × (r .value ≡ 0) → Same (lettersOf (now (first .entry))) (languageOf (now (first .entry))) (languageOf (now (second .entry)))) × (Same (lettersOf (now (first .entry))) (languageOf (now (first .entry))) (languageOf (now (second .entry))) → (r .number ≡ 0) × (r .value ≡ 0))) ⌝ }
+    ensures first { λ r. ⌜ ((s : Side) → r .number ≡ 0 → r .value ≡ sideNumber s → FirstDifference (lettersOf (now (first .entry))) (languageOf (now (first .entry))) (languageOf (now (second .entry))) (take (r .length) (now (word .exit))) × (languageOf (acceptorOf s (now (first .entry)) (now (second .entry))) (take (r .length) (now (word .exit))) ≡ true) × ((d e : ℕ) → IsDimension (lettersOf (now (first .entry))) (languageOf (now (first .entry))) d → IsDimension (lettersOf (now (first .entry))) (languageOf (now (second .entry))) e → r .length < d + e)) ⌝ }
+    ensures withheld { λ r. ⌜ (WellFormed (now (first .entry)) → WellFormed (now (second .entry)) → lettersOf (now (first .entry)) ≡ lettersOf (now (second .entry)) → (w : List ℕ) → FirstDifference (lettersOf (now (first .entry))) (languageOf (now (first .entry))) (languageOf (now (second .entry))) w → (length (now (word .entry)) < length w → r ≡ refusal 12 0 (length w)) × ((k : ℕ) → r ≡ refusal 12 0 k → (k ≡ length w) × (length (now (word .entry)) < length w))) ⌝ }
+{
+    of_compared(compare::compare(first, second, word))
+}
+
+// Gives out a record of the catalogue by its number. Where the reply's number is 0, the first `length` bytes of the buffer are a
+// well-formed record; it accepts the entry's words; it has as many states as their dimension; and it is its own minimal record.
+#[no_mangle]
+pub extern "C" fn nxa_catalogue(number: usize, out: &mut [u8]) -> Reply
+    ensures reply { λ r. ⌜ r ≡ ofWritten (answerOf (catalogueOf number (length (now (out .entry))))) ⌝ }
+    ensures buffer { λ _. ⌜ now (out .exit) ≡ bufferOf (catalogueOf number (length (now (out .entry)))) (now (out .entry)) ⌝ }
+    ensures formed { λ r. ⌜ (r .number ≡ 0 → WellFormed (take (r .length) (now (out .exit)))) ⌝ }
+    ensures words { λ r. ⌜ (r .number ≡ 0 → Same (lettersAt number) (wordsOf number) (languageOf (take (r .length) (now (out .exit))))) ⌝ }
+    ensures dimension { λ r. ⌜ (r .number ≡ 0 → IsDimension (lettersAt number) (wordsOf number) (statesOf (take (r .length) (now (out .exit))))) ⌝ }
+    ensures minimal { λ r. ⌜ (r .number ≡ 0 → encode (lettersAt number) (minimalOf (lettersAt number) (automatonOf (take (r .length) (now (out .exit))))) ≡ take (r .length) (now (out .exit))) ⌝ }
+{
+    of_written(catalogue::give(number, out))
+}

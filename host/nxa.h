@@ -1,0 +1,145 @@
+/* The C interface of the marking desk: xor automata as records, and the services on them.
+ *
+ * A record is at most NXA_RECORD_MAX bytes: the mark 4E 58 41, the version (2 bytes), the number of states n (1 byte), the number of
+ * letters a (1 byte), then rows of 4 bytes each: I, F, and for every letter its n rows. Numbers go low byte first. Bit j of a row,
+ * worth 2^j, stands for state j. A word is one byte per letter, the letters being 0 to a-1. A record accepts a word when the number
+ * of paths along it, from a state of I to a state of F, is odd.
+ *
+ * What a service is given: numbers, and slices of bytes as a pointer and a length.
+ * What it gives back: an nxa_reply. Number NXA_GRANTED (0) says that it did its work. Any other number is a refusal; it comes with the
+ * record it is about (1 or 2; 0 where none is named) and a place, and then the lent buffer is left exactly as it was. Fields that a
+ * reply has no use for are 0. A service that writes does so from the start of the lent buffer; the bytes past those written stay.
+ *
+ * What the host owes:
+ *   - every pointer is valid and not null, also where its length is 0;
+ *   - as many bytes as the length says can be read there, and in a lent buffer written;
+ *   - a lent buffer overlaps no other slice of the same call, and nobody else touches it during the call.
+ * The services keep nothing between calls, allocate nothing and may run at the same time in several threads.
+ */
+#ifndef NXA_H
+#define NXA_H
+
+#include <stddef.h>
+#include <stdint.h>
+
+#ifdef __cplusplus
+extern "C" {
+#endif
+
+/* Sizes. */
+#define NXA_STATES_MAX 32    /* states of a record */
+#define NXA_LETTERS_MAX 8    /* letters of a record */
+#define NXA_RECORD_MAX 1039  /* bytes of the longest record, NXA_RECORD_LENGTH(NXA_STATES_MAX, NXA_LETTERS_MAX) */
+#define NXA_WORD_MAX 63      /* letters of the longest word that a comparison writes */
+#define NXA_CATALOGUE_LAST 5 /* the catalogue's last number */
+
+/* The bytes of a record of n states over a letters. */
+#define NXA_RECORD_LENGTH(n, a) (15 + 4 * (size_t)(a) * (size_t)(n))
+
+/* The numbers of a reply, with the place that each refusal gives. */
+#define NXA_GRANTED 0        /* no refusal */
+#define NXA_TOO_SHORT 1      /* fewer than 7 bytes: the record's length */
+#define NXA_WRONG_MARK 2     /* wrong mark: offset of the first wrong byte, 0 to 2 */
+#define NXA_WRONG_VERSION 3  /* version not 1: 3 */
+#define NXA_STATES 4         /* n over 32: 5 */
+#define NXA_LETTERS 5        /* a is 0 or over 8: 6 */
+#define NXA_WRONG_LENGTH 6   /* length not 15 + 4*a*n: the length needed */
+#define NXA_STRAY_BIT 7      /* I, F or a row has a bit at n or above: offset of the first such field */
+#define NXA_UNLIKE_LETTERS 8 /* the two records have different a: 6; names record 2 */
+#define NXA_FOREIGN_LETTER 9 /* a letter of the tested word is a or more: its index in the word */
+#define NXA_NO_ROOM 12       /* the lent buffer is too short: the bytes needed; names no record */
+#define NXA_NO_ENTRY 13      /* catalogue number over 5: the number; names no record */
+
+typedef struct {
+    size_t number; /* NXA_GRANTED, or the refusal's number */
+    size_t record; /* of a refusal: the record it is about, or 0 */
+    size_t place;  /* of a refusal: see the numbers above */
+    size_t length; /* the bytes written */
+    size_t value;  /* what else the service answers */
+} nxa_reply;
+
+/* Checks a record.
+ *
+ * Reads:    the record.
+ * Writes:   nothing.
+ * Granted:  the record is well formed; length 0, value 0.
+ * Refused:  1 to 7, record 1, in this order: the first condition that is met is told.
+ *
+ *   nxa_reply r = nxa_check(bytes, count);
+ *   if (r.number == NXA_STRAY_BIT) printf("stray bit in the field at %lu\n", (unsigned long)r.place);
+ */
+nxa_reply nxa_check(const uint8_t *record, size_t record_len);
+
+/* Reads a record into its fields and writes it out afresh.
+ *
+ * Reads:    the record.
+ * Writes:   the record, length bytes.
+ * Granted:  length is 15 + 4*a*n, value 0.
+ * Refused:  1 to 7, record 1; then 12, record 0, place the bytes needed.
+ *
+ *   uint8_t copy[NXA_RECORD_MAX];
+ *   nxa_reply r = nxa_rewrite(bytes, count, copy, sizeof copy);
+ */
+nxa_reply nxa_rewrite(const uint8_t *record, size_t record_len, uint8_t *out, size_t out_len);
+
+/* Tests whether a record accepts a word. A word may have any length.
+ *
+ * Reads:    the record, and the word, one letter per byte.
+ * Writes:   nothing.
+ * Granted:  value 1 where the word is accepted, else 0; length 0.
+ * Refused:  1 to 7, record 1; then 9, record 1, place the index of the first letter that is a or more.
+ *
+ *   static const uint8_t word[2] = {0, 1};
+ *   nxa_reply r = nxa_test(bytes, count, word, sizeof word);
+ *   if (r.number == NXA_GRANTED && r.value == 1) puts("accepted");
+ */
+nxa_reply nxa_test(const uint8_t *record, size_t record_len, const uint8_t *word, size_t word_len);
+
+/* Writes the minimal record of a record: the one record of the fewest states that stands for all that accept the same words. Two
+ * records over the same letters accept the same words exactly when their minimal records are equal byte for byte.
+ *
+ * Reads:    the record.
+ * Writes:   its minimal record, length bytes.
+ * Granted:  length is 15 + 4*a*d, value is the dimension d, the number of states of the minimal record.
+ * Refused:  1 to 7, record 1; then 12, record 0, place the bytes needed. NXA_RECORD_MAX bytes are always enough.
+ *
+ *   uint8_t least[NXA_RECORD_MAX];
+ *   nxa_reply r = nxa_minimal(bytes, count, least, sizeof least);
+ *   if (r.number == NXA_GRANTED) printf("%lu states\n", (unsigned long)r.value);
+ */
+nxa_reply nxa_minimal(const uint8_t *record, size_t record_len, uint8_t *out, size_t out_len);
+
+/* Compares two records over the same letters: do they accept the same words, of whatever length?
+ *
+ * Reads:    both records.
+ * Writes:   where they differ, the first word in prefix order (shorter words first, equal lengths by the first differing letter) that
+ *           just one of them accepts, one letter per byte, length bytes.
+ * Granted:  value 0: the same words, length 0. Value 1 or 2: the record that accepts the word, length its letters, 0 to 63.
+ * Refused:  1 to 7, record 1; 1 to 7, record 2; 8, record 2, place 6; then, only where they differ, 12, record 0, place the letters of
+ *           the word. A refusal of the first record is the whole answer. NXA_WORD_MAX bytes are always enough.
+ *
+ *   uint8_t word[NXA_WORD_MAX];
+ *   nxa_reply r = nxa_compare(key, key_count, answer, answer_count, word, sizeof word);
+ *   if (r.number == NXA_GRANTED && r.value == 0) puts("same");
+ */
+nxa_reply nxa_compare(const uint8_t *first, size_t first_len, const uint8_t *second, size_t second_len, uint8_t *word,
+                      size_t word_len);
+
+/* Gives out a record of the catalogue. 0 no word; 1 all words; 2 the empty word only; 3 words ending in 1; 4 language X, in which every
+ * maximal run of letter 0 has a length that does not leave 2 on division by 3; all these over two letters; 5 over one letter, the
+ * lengths that leave 0, 1, 2 or 4 on division by 7.
+ *
+ * Writes:   the record, which is minimal, length bytes.
+ * Granted:  length is 15, 23, 23, 31, 31, 27 for numbers 0 to 5, value 0.
+ * Refused:  13, record 0, place the number; then 12, record 0, place the bytes needed.
+ *
+ *   uint8_t x[NXA_RECORD_MAX];
+ *   nxa_reply r = nxa_catalogue(4, x, sizeof x);
+ */
+nxa_reply nxa_catalogue(size_t number, uint8_t *out, size_t out_len);
+
+#ifdef __cplusplus
+}
+#endif
+
+#endif

@@ -1,0 +1,34 @@
+#!/bin/sh
+# Runs the example host on the four-state machine of X, on a damaged copy and on nothing, and holds it to what it must print.
+set -eu
+example=$1
+record='NXA\001\000\004\002\001\000\000\000\003\000\000\000\002\000\000\000\004\000\000\000\001\000\000\000\010\000\000\000\001\000\000\000\001\000\000\000\010\000\000\000\010\000\000\000'
+
+# expect STATUS TEXT GOT: the status and the whole text.
+expect() {
+    if [ "$3" != "$2
+status $1" ]; then
+        printf 'example: expected status %s and\n%s\nbut got\n%s\n' "$1" "$2" "$3"
+        exit 1
+    fi
+}
+
+# said BYTES WORDS..: what the example says of a record on standard input, and its status.
+said() {
+    bytes=$1
+    shift
+    printf "$bytes" | { "$example" - "$@" && echo "status 0" || echo "status $?"; }
+}
+
+expect 0 'check: well formed, 47 bytes
+minimal: dimension 2, 31 bytes
+  2 states, 2 letters
+  I 00000001  F 00000003
+  letter 0: 00000002 00000003
+  letter 1: 00000001 00000001
+test: - is accepted
+test: 000 is accepted
+test: 001 is not accepted' "$(said "$record" 000 001)"
+expect 1 'check: refused (6): the record'"'"'s length does not fit its states and letters; bytes needed 47' "$(said "$record\\000")"
+expect 1 'check: refused (1): the record is too short to have a head: its bytes number 0' "$(said '')"
+echo "example: 3 records as expected"

@@ -1,0 +1,110 @@
+// A run of requests put to the desk and to the second program, which ends at the first difference.
+#ifndef DRIVE_RUN_HPP
+#define DRIVE_RUN_HPP
+
+#include <cstddef>
+#include <cstdint>
+#include <string>
+
+#include "../second/generate.hpp"
+#include "../second/second.hpp"
+#include "nxa.h"
+
+namespace drive {
+
+using generate::Chance;
+using second::Bytes;
+using second::Reply;
+using second::Word;
+
+// Bytes in the middle of other bytes that nobody may touch.
+class Guarded {
+public:
+    explicit Guarded(const Bytes& content);
+    std::uint8_t* data() { return all_.data() + margin; }
+    std::size_t size() const { return all_.size() - 2 * margin; }
+    bool holds(const Bytes& content) const;   // this content, and the bytes around it as they were
+
+private:
+    static constexpr std::size_t margin = 64;
+    Bytes all_;
+};
+
+// What one request gave: its reply, and the whole lent buffer afterwards.
+struct Answer {
+    Reply reply;
+    Bytes buffer;
+    Bytes written() const;
+};
+
+// The bytes and numbers of a request, to be shown when the answers differ.
+struct Request {
+    std::string service;
+    std::vector<Bytes> inputs;
+    std::size_t number = 0;   // the catalogue number or the index in a script
+    std::size_t lent = 0;
+};
+
+class Run {
+public:
+    // From the arguments seed, count and, to repeat a part, the first case.
+    Run(std::string name, int argc, char** argv);
+
+    using OneService = nxa_reply (*)(const std::uint8_t*, std::size_t, std::uint8_t*, std::size_t);
+    using TwoService = nxa_reply (*)(const std::uint8_t*, std::size_t, const std::uint8_t*, std::size_t,
+                                     std::uint8_t*, std::size_t);
+    using NumberService = nxa_reply (*)(std::size_t, std::uint8_t*, std::size_t);
+    using IndexService = nxa_reply (*)(const std::uint8_t*, std::size_t, std::size_t, std::uint8_t*, std::size_t);
+    using SecondOne = Reply (*)(const Bytes&, Bytes&);
+    using SecondTwo = Reply (*)(const Bytes&, const Bytes&, Bytes&);
+
+    // Each puts one request to both, compares all there is to compare and gives the answer.
+    Answer check(const Bytes& record);
+    Answer test(const Bytes& record, const Word& word);
+    Answer one(const char* service, OneService desk, SecondOne expected, const Bytes& record, std::size_t lent);
+    Answer two(const char* service, TwoService desk, SecondTwo expected, const Bytes& first, const Bytes& other,
+               std::size_t lent);
+    Answer catalogue(NumberService desk, std::size_t number, std::size_t lent);
+    Answer mark(IndexService desk, const Bytes& script, std::size_t index, std::size_t lent);
+
+    // The same with every size that may matter: exact, one short, none and larger.
+    void one_sizes(const char* service, OneService desk, SecondOne expected, const Bytes& record);
+    void two_sizes(const char* service, TwoService desk, SecondTwo expected, const Bytes& first,
+                   const Bytes& other);
+
+    // A law among answers of the desk; the inputs are shown when it fails.
+    void law(bool holds, const char* what, const std::vector<Bytes>& inputs);
+
+    // Goes through the random cases.
+    template <typename Case>
+    void cases(Case each)
+    {
+        for (number_ = first_; number_ < first_ + count_; ++number_) {
+            Chance chance = generate::chance_of(seed_, number_);
+            each(chance);
+        }
+    }
+
+    int finish() const;   // the closing line
+
+private:
+    [[noreturn]] void fail(const Request& request, const std::string& what) const;
+    Bytes lent_bytes(std::size_t size);
+    template <typename Desk, typename Second>
+    Answer put(Request request, Desk desk, Second expected);
+
+    std::string name_;
+    std::uint64_t seed_ = 1;
+    std::size_t count_ = 1000;
+    std::size_t first_ = 0;
+    std::size_t number_ = SIZE_MAX;   // no random case: the fixed ones
+    std::size_t requests_ = 0;
+    Chance filling_;
+};
+
+// Larger than anything a service writes.
+constexpr std::size_t ample = 1100;
+
+}  // namespace drive
+
+#endif

@@ -1,0 +1,34 @@
+// The second program: every service of document 01, from bytes to bytes, by plain means.
+#ifndef SECOND_SECOND_HPP
+#define SECOND_SECOND_HPP
+
+#include <string>
+
+#include "machine.hpp"
+
+namespace second {
+
+// Number 0: granted. Fields a reply has no use for are 0.
+struct Reply {
+    std::size_t number, record, place, length, value;
+};
+
+// A lent buffer keeps its size; it keeps its bytes on a refusal and past the bytes written.
+Reply check(const Bytes& record);
+Reply rewrite(const Bytes& record, Bytes& out);
+Reply test(const Bytes& record, const Word& word);              // value 1: accepted
+Reply minimal(const Bytes& record, Bytes& out);                 // value: the dimension
+Reply compare(const Bytes& first, const Bytes& other, Bytes& word);   // value 0: same, else who accepts
+Reply sum(const Bytes& first, const Bytes& other, Bytes& out);
+Reply meet(const Bytes& first, const Bytes& other, Bytes& out);
+Reply complement(const Bytes& record, Bytes& out);
+Reply mirror(const Bytes& record, Bytes& out);
+Reply catalogue(std::size_t number, Bytes& out);
+Reply mark(const Bytes& script, std::size_t index, Bytes& out);
+
+// The whole text that the marking program prints.
+std::string mark_program(const Bytes& script);
+
+}  // namespace second
+
+#endif
