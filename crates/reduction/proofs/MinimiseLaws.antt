@@ -20,7 +20,7 @@ pub transposed-bounded : (a n i f : ℕ) (t s : List ℕ) → Bounded a t n i f 
 transposed-bounded a n i f t s ok T = record { states = ok .states; letters = ok .letters; size = T .size; initial = ok .finals; finals = ok .initial; rows = T .low }
 
 -- The transposed table, initial row and final column exchanged, holds the mirror.
-transposed-bits : (a n i f : ℕ) (t s : List ℕ) → Transposed a n t s → SameBits a (auto s n f i) (mirrorOf (auto t n i f))
+pub transposed-bits : (a n i f : ℕ) (t s : List ℕ) → Transposed a n t s → SameBits a (auto s n f i) (mirrorOf (auto t n i f))
 transposed-bits a n i f t s T = record { states = refl; initial = λ k h. refl; final = λ k h. refl; step = λ l k j hl hk hj. T .rows l k hl hk j hj }
 
 pub twice : (a : ℕ) (t : List ℕ) (n i f : ℕ) (u b c : List ℕ) (d i′ f′ : ℕ) (u′ b′ s : List ℕ) (e i″ f″ : ℕ)

@@ -1,0 +1,120 @@
+// The meet of two records: the product automaton of their minimal automata, and the minimal record of its words.
+ghost use mathlib.Core.Path.{_≡_};
+ghost use Prim.Native.Nat.{ℕ, _+_, _*_, _^_, _≤_, _<_};
+ghost use lib.ListN.{length, take};
+ghost use Rattle.automata.specs.Automaton.{accepts};
+ghost use Rattle.automata.specs.Language.{Same, intersection};
+ghost use Rattle.automata.specs.Dimension.{IsDimension};
+ghost use Rattle.rows.specs.Row.{width, mask};
+ghost use Rattle.rows.specs.Table.{blocks, size, at};
+ghost use Rattle.rows.specs.Machine.{automatonIn, Valid};
+ghost use Rattle.comparison.specs.Sum.{Filled};
+ghost use Rattle.record.specs.Record.{maxStates, lettersOf, automatonOf};
+ghost use Rattle.record.specs.Outcome.{answerOf, bufferOf};
+ghost use Rattle.operations.specs.Operations.{MinimalRecord, Operands, Limits};
+ghost use Rattle.operations.specs.Inner.{Built};
+ghost use Rattle.intersection.specs.Meet.{maxProduct, meetOutcome, DimensionProduct, Small};
+ghost use Rattle.intersection.specs.Kron.{kron, crossed};
+use operands::Pair;
+use record::Written;
+use rows::Machine;
+use rows::Row;
+use rows::Table;
+
+const MAX_PRODUCT: usize = 64;
+
+// The Kronecker product of the row x of n bits and the row y of m bits: bit p * m + q is bit p of x and bit q of y.
+fn kron(x: Row, y: Row, n: usize, m: usize) -> Row
+    requires { ⌜ (n ≤ width) × (n * m ≤ width) × (mask y < 2 ^ m) ⌝ }
+    ensures { λ r. ⌜ mask r ≡ kron n m (mask x) (mask y) ⌝ }
+{
+    let mut r = rows::none();
+    let mut p: usize = 0;
+    while p < n {
+        let z = rows::moved(y, p * m);
+        let b = rows::has(x, p);
+        let w = rows::when(b, z);
+        r = rows::xor(r, w);
+        p += 1;
+    }
+    r
+}
+
+// The rows of letter l of the product automaton of t, with n states, and u, with m.
+fn cross_block(t: &Table, u: &Table, out: &mut Table, n: usize, m: usize, l: usize)
+    requires { ⌜ (n ≤ width) × (n * m ≤ width) × (l < blocks) × ((j : ℕ) → j < m → at (now u) l j < 2 ^ m) × Filled l (n * m) (crossed (now t) (now u) n m) (now out) ⌝ }
+    ensures { λ _. ⌜ Filled (l + 1) (n * m) (crossed (now (t .entry)) (now (u .entry)) n m) (now (out .exit)) ⌝ }
+{
+    let d = n * m;
+    let mut k: usize = 0;
+    while k < d {
+        let x = rows::load(t, l, k / m);
+        let y = rows::load(u, l, k % m);
+        let r = kron(x, y, n, m);
+        rows::store(out, l, k, r);
+        k += 1;
+    }
+}
+
+// The rows of the product automaton: the Kronecker products of the matrices of each letter.
+fn cross(t: &Table, u: &Table, out: &mut Table, a: usize, n: usize, m: usize)
+    requires { ⌜ (a ≤ blocks) × (n ≤ width) × (n * m ≤ width) × ((l j : ℕ) → l < a → j < m → at (now u) l j < 2 ^ m) × (length (now out) ≡ size) ⌝ }
+    ensures { λ _. ⌜ Filled a (n * m) (crossed (now (t .entry)) (now (u .entry)) n m) (now (out .exit)) ⌝ }
+{
+    let mut l: usize = 0;
+    while l < a {
+        cross_block(t, u, out, n, m, l);
+        l += 1;
+    }
+}
+
+// The product automaton of two automata over the same letters, its rows in s.
+fn product(t: &Table, g: Machine, u: &Table, h: Machine, s: &mut Table) -> Machine
+    requires { ⌜ Valid (now t) g × Valid (now u) h × (h .letters ≡ g .letters) × (g .states * h .states ≤ width) × (length (now s) ≡ size) ⌝ }
+    ensures { λ r. ⌜ Built (g .letters) (intersection (accepts (automatonIn (now (t .entry)) g)) (accepts (automatonIn (now (u .entry)) h))) (now (s .exit)) r ⌝ }
+{
+    let n = g.states;
+    let m = h.states;
+    let a = g.letters;
+    cross(t, u, s, a, n, m);
+    let initial = kron(g.initial, h.initial, n, m);
+    let finals = kron(g.finals, h.finals, n, m);
+    Machine {
+        states: n * m,
+        letters: a,
+        initial: initial,
+        finals: finals,
+    }
+}
+
+// Writes the minimal record of the words that both records accept. `words` and `form`: as for operations::sum.
+// `products`: refusal 10 comes exactly where the records pass and the product of the dimensions of their languages is over 64.
+// `limits`: refusal 11 comes exactly where, besides, that product is not over 64 and the dimension of the meet is over 32.
+pub fn meet(first: &[u8], second: &[u8], out: &mut [u8]) -> Written
+    ensures answer { λ r. ⌜ r ≡ answerOf (meetOutcome (now (first .entry)) (now (second .entry)) (length (now (out .entry)))) ⌝ }
+    ensures buffer { λ _. ⌜ now (out .exit) ≡ bufferOf (meetOutcome (now (first .entry)) (now (second .entry)) (length (now (out .entry)))) (now (out .entry)) ⌝ }
+    ensures products { λ r. ⌜ Limits 10 maxProduct (Operands (now (first .entry)) (now (second .entry))) (DimensionProduct (lettersOf (now (first .entry))) (accepts (automatonOf (now (first .entry)))) (accepts (automatonOf (now (second .entry))))) r ⌝ }
+    ensures words { λ r. ⌜ ((n : ℕ) → r ≡ Written.Done n → Same (lettersOf (now (first .entry))) (intersection (accepts (automatonOf (now (first .entry)))) (accepts (automatonOf (now (second .entry))))) (accepts (automatonOf (take n (now (out .exit)))))) ⌝ }
+    ensures form { λ r. ⌜ ((n : ℕ) → r ≡ Written.Done n → MinimalRecord (lettersOf (now (first .entry))) (intersection (accepts (automatonOf (now (first .entry)))) (accepts (automatonOf (now (second .entry))))) (take n (now (out .exit)))) ⌝ }
+    ensures limits { λ r. ⌜ Limits 11 maxStates (Operands (now (first .entry)) (now (second .entry)) × Small (lettersOf (now (first .entry))) (accepts (automatonOf (now (first .entry)))) (accepts (automatonOf (now (second .entry))))) (IsDimension (lettersOf (now (first .entry))) (intersection (accepts (automatonOf (now (first .entry)))) (accepts (automatonOf (now (second .entry)))))) r ⌝ }
+{
+    let p = operands::check_pair(first, second);
+    let Pair::Both = p else {
+        return operations::refuse(p);
+    };
+    let mut t = [0u64; 512];
+    let mut u = [0u64; 512];
+    let mut s = [0u64; 512];
+    let g = minimal::minimal_form(first, &mut t);
+    let h = minimal::minimal_form(second, &mut u);
+    let d = g.states * h.states;
+    if MAX_PRODUCT < d {
+        return Written::Refused {
+            number: 10,
+            record: 0,
+            place: d,
+        };
+    }
+    let m = product(&t, g, &u, h, &mut s);
+    operations::finish(&s, m, out)
+}

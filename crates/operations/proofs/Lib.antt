@@ -1,0 +1,3 @@
+pub mod ResultLaws
+pub mod OperationLaws
+pub mod BuiltLaws

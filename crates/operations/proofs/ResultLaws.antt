@@ -1,0 +1,198 @@
+-- The minimal record of a result: what is written is minimal for its language, and exactly when a limit refuses.
+use mathlib.Core.Path.{_≡_, refl, sym, ap, ap₂, subst, _∙_}
+use mathlib.Core.Bool.{Bool, true, false, cond}
+use mathlib.Core.List.{List}
+use Prim.Native.Nat.{ℕ, _<_, _≤_}
+use native.Mathlib.Decide.{decLt}
+use native.Mathlib.Omega.{arith}
+use lib.Dec.{ltb}
+use lib.ListN.{length, take}
+use Rattle.automata.specs.Automaton.{Automaton, accepts}
+use Rattle.automata.specs.Language.{Language, Same}
+use Rattle.automata.specs.Dimension.{IsDimension}
+use Rattle.automata.specs.MinimalOf.{basisWords, minimalOf, dimensionOf}
+use Rattle.automata.proofs.Minimal.{minimal-same, minimal-dimension, same-sym, bits-language}
+use Rattle.automata.proofs.MinimalOf.{minimal-of}
+use Rattle.automata.proofs.Dimension.{dimension-unique, dimension-least, dimension-same, minimal-language, minimal-states}
+use Rattle.automata.proofs.Fields.{same-fields}
+use Rattle.rows.specs.declared.Machine.{Machine}
+use Rattle.rows.specs.Row.{mask}
+use Rattle.rows.specs.Machine.{automatonIn}
+use Rattle.reduction.specs.Tables.{Minimises}
+use Rattle.comparison.proofs.SumLaws.{if-low, if-high}
+use Rattle.record.specs.Record.{maxStates, maxLetters, statesOf, automatonOf, encode}
+use Rattle.record.specs.Outcome.{Outcome, refused, wrote, answerOf, bufferOf, fit}
+use Rattle.record.specs.declared.Written.{Written}
+use Rattle.record.specs.declared.Written.the-variants.{Done, Refused}
+use Rattle.record.proofs.Encode.{states-encode, letters-encode, check-encode, bits-encode, fields-encode}
+use Rattle.record.proofs.Outcome.{fit-wrote, outcome-take}
+use Rattle.operations.specs.Operations.{limited, resultOf, MinimalRecord, Limits}
+use Rattle.operations.specs.Inner.{Built}
+
+-- ---- the minimal record of a language
+
+-- The dimension of the words that A accepts.
+dimension-language : (a : ℕ) (L : Language) (A : Automaton) → Same a L (accepts A) → IsDimension a L (dimensionOf a A)
+unfolding dimensionOf
+dimension-language a L A same =
+    minimal-dimension a L (minimalOf a A) (basisWords a (A .states) (accepts A))
+    (minimal-same a (accepts A) L (minimalOf a A) (basisWords a (A .states) (accepts A)) (same-sym a L (accepts A) same) (minimal-of a A))
+
+module _ (a : ℕ) (L : Language) (A : Automaton) (same : Same a L (accepts A)) (small : dimensionOf a A ≤ maxStates) where
+  fits : minimalOf a A .states ≤ maxStates
+  fits = omega (arith, minimal-states a A)
+
+  count : statesOf (encode a (minimalOf a A)) ≡ dimensionOf a A
+  count = states-encode a (minimalOf a A) ∙ minimal-states a A
+
+  result-words : Same a L (accepts (automatonOf (encode a (minimalOf a A))))
+  result-words w ow = same w ow ∙ minimal-language a A w ow ∙ sym (bits-language a (automatonOf (encode a (minimalOf a A))) (minimalOf a A) (bits-encode a (minimalOf a A) fits) w ow)
+
+  result-record : 1 ≤ a → a ≤ maxLetters → MinimalRecord a L (encode a (minimalOf a A))
+  result-record some few = record {
+    formed = check-encode a (minimalOf a A) fits some few;
+    letters = letters-encode a (minimalOf a A);
+    dimension = subst (IsDimension a L) (sym count) (dimension-language a L A same);
+    least = λ B also. subst (λ d. d ≤ B .states) (sym count) (dimension-least a A B (λ w ow. sym (same w ow) ∙ also w ow));
+    bytes = λ B also. fields-encode a (minimalOf a A) (minimalOf a B) (same-fields a A B (λ w ow. sym (same w ow) ∙ also w ow));
+  }
+
+-- ---- rows 11 and 12
+
+-- The result is one of the words, not of the automaton.
+result-same : (a : ℕ) (A B : Automaton) (room : ℕ) → Same a (accepts A) (accepts B) → resultOf a A room ≡ resultOf a B room
+unfolding resultOf
+result-same a A B room same = ap₂ (λ d bytes. limited d (fit room bytes)) (dimension-same a A B same) (fields-encode a (minimalOf a A) (minimalOf a B) (same-fields a A B same))
+
+-- The automaton in a table with the words of A gives the result for A.
+built-result : (a : ℕ) (L : Language) (A : Automaton) (t : List ℕ) (m : Machine) (room : ℕ) → Same a L (accepts A) → Built a L t m → resultOf (m .letters) (automatonIn t m) room ≡ resultOf a A room
+built-result a L A t m room same b =
+    ap (λ x. resultOf x (automatonIn t m) room) (b .letters) ∙ result-same a (automatonIn t m) A room (λ w ow. sym (b .words w ow) ∙ same w ow)
+
+module _ (a : ℕ) (A : Automaton) (room : ℕ) (s : List ℕ) (g : Machine) (M : Minimises a A s (g .states) (mask (g .initial)) (mask (g .finals))) where
+  pub result-over : maxStates < g .states → resultOf a A room ≡ refused 11 0 (g .states)
+  unfolding resultOf
+  result-over h =
+      ap (λ d. limited d (fit room (encode a (minimalOf a A)))) (sym (M .dimension))
+      ∙ if-low maxStates (g .states) (refused 11 0 (g .states)) (fit room (encode a (minimalOf a A))) h
+
+  pub result-within : g .letters ≡ a → g .states ≤ maxStates → resultOf a A room ≡ fit room (encode (g .letters) (automatonIn s g))
+  unfolding resultOf
+  result-within e h =
+      ap (λ d. limited d (fit room (encode a (minimalOf a A)))) (sym (M .dimension))
+      ∙ if-high maxStates (g .states) (refused 11 0 (g .states)) (fit room (encode a (minimalOf a A))) h
+      ∙ ap (fit room) (sym (ap (λ x. encode x (automatonIn s g)) e ∙ fields-encode a (automatonIn s g) (minimalOf a A) (M .same-fields)))
+
+not-wrote : {number which place : ℕ} {out : List ℕ} → refused number which place ≡ wrote out → ⊥
+not-wrote e = let z : _≡_ {A = ℕ} 0 1 = cc in omega arith
+
+result-wrote : (a : ℕ) (A : Automaton) (room : ℕ) (out : List ℕ) → resultOf a A room ≡ wrote out → (dimensionOf a A ≤ maxStates) × (out ≡ encode a (minimalOf a A))
+unfolding resultOf
+result-wrote a A room out e = go (decLt maxStates (dimensionOf a A))
+  where
+    go : Dec (maxStates < dimensionOf a A) → (dimensionOf a A ≤ maxStates) × (out ≡ encode a (minimalOf a A))
+    go (yes h) = absurd (not-wrote (sym (if-low maxStates (dimensionOf a A) (refused 11 0 (dimensionOf a A)) (fit room (encode a (minimalOf a A))) h) ∙ e))
+    go (no h) = (omega arith, fit-wrote room (encode a (minimalOf a A)) out (sym (if-high maxStates (dimensionOf a A) (refused 11 0 (dimensionOf a A)) (fit room (encode a (minimalOf a A))) (omega arith)) ∙ e))
+
+-- Row 12 is the only refusal of a write.
+fit-twelve : (room : ℕ) (bytes : List ℕ) (number which k : ℕ) → fit room bytes ≡ refused number which k → number ≡ 12
+unfolding fit
+fit-twelve room bytes number which k e = go (ltb room (length bytes)) e
+  where
+    go : (b : Bool) → cond b (refused 12 0 (length bytes)) (wrote bytes) ≡ refused number which k → number ≡ 12
+    go true q = cc
+    go false q = absurd (not-wrote (sym q))
+
+-- The refusals of a result are rows 11 and 12.
+pub result-number : (a : ℕ) (A : Automaton) (room number which k : ℕ) → resultOf a A room ≡ refused number which k → 11 ≤ number
+unfolding resultOf
+result-number a A room number which k e = go (ltb maxStates (dimensionOf a A)) e
+  where
+    go : (b : Bool) → cond b (refused 11 0 (dimensionOf a A)) (fit room (encode a (minimalOf a A))) ≡ refused number which k → 11 ≤ number
+    go true q =
+        let z : number ≡ 11 = cc in
+        omega arith
+    go false q = let z = fit-twelve room (encode a (minimalOf a A)) number which k q in omega arith
+
+-- ---- from the answer to what was done
+
+answer-refused : (o : Outcome) (number which place : ℕ) → answerOf o ≡ Refused number which place → o ≡ refused number which place
+answer-refused (refused n w p) number which place e = cc
+answer-refused (wrote out) number which place e = let z : _≡_ {A = ℕ} 0 1 = cc in absurd (omega arith)
+
+answer-done : (o : Outcome) (n : ℕ) → answerOf o ≡ Done n → (out : List ℕ) × (o ≡ wrote out) × (n ≡ length out)
+answer-done (refused number which place) n e = let z : _≡_ {A = ℕ} 0 1 = cc in absurd (omega arith)
+answer-done (wrote out) n e = (out, refl, cc)
+
+-- A limit that is tested once the earlier checks pass, and that no other row names.
+module _ (number limit d : ℕ) (rest o : Outcome) (Passed : Type 0) (Measures : ℕ → Type 0)
+    (passed : Passed → o ≡ cond (ltb limit d) (refused number 0 d) rest)
+    (earlier : (k : ℕ) → o ≡ refused number 0 k → Passed)
+    (later : (k : ℕ) → rest ≡ refused number 0 k → ⊥)
+    (measure : Measures d) (unique : (k : ℕ) → Measures k → k ≡ d) where
+  pub limits-of : (r : Written) → r ≡ answerOf o → Limits number limit Passed Measures r
+  limits-of r e = record {
+    refuses = λ p k m h. e ∙ ap answerOf (passed p ∙ if-low limit d (refused number 0 d) rest (omega (arith, unique k m))) ∙ ap (λ x. Refused number 0 x) (sym (unique k m));
+    only = λ k q. let h = answer-refused o number 0 k (sym e ∙ q) in let p = earlier k h in go k p (sym (passed p) ∙ h) (decLt limit d);
+  }
+    where
+      go : (k : ℕ) → Passed → cond (ltb limit d) (refused number 0 d) rest ≡ refused number 0 k → Dec (limit < d) → Passed × Measures k × (limit < k)
+      go k p q (yes h) =
+          let z = sym (if-low limit d (refused number 0 d) rest h) ∙ q in
+          let w : d ≡ k = cc in
+          (p, subst Measures w measure, omega arith)
+      go k p q (no h) = absurd (later k (sym (if-high limit d (refused number 0 d) rest (omega arith)) ∙ q))
+
+-- ---- what a service promises
+
+-- Of an answer r and a buffer at exit: the answer and the buffer, the words, the form, row 11.
+abbrev pub Promises : ℕ → Language → Type 0 → Outcome → List ℕ → List ℕ → Written → Type 0
+Promises a L Passed o buf exit r =
+    (r ≡ answerOf o) × ((exit ≡ bufferOf o buf) × (((n : ℕ) → r ≡ Done n → Same a L (accepts (automatonOf (take n exit))))
+    × (((n : ℕ) → r ≡ Done n → MinimalRecord a L (take n exit)) × Limits 11 maxStates Passed (IsDimension a L) r)))
+
+-- A refusal that leaves the buffer, and a result from an automaton in a table.
+abbrev pub Service : ℕ → Language → Type 0 → List ℕ → Outcome → Type 0
+Service a L Passed buf o =
+    ((number which place : ℕ) (r : Written) → o ≡ refused number which place → r ≡ Refused number which place → Promises a L Passed o buf buf r)
+    × ((t : List ℕ) (m : Machine) (exit : List ℕ) (r : Written) → Passed → Built a L t m
+    → r ≡ answerOf (resultOf (m .letters) (automatonIn t m) (length buf)) → exit ≡ bufferOf (resultOf (m .letters) (automatonIn t m) (length buf)) buf → Promises a L Passed o buf exit r)
+
+-- The promises of a service that gives the result for A once its checks pass, and writes or refuses by 11 only then.
+module _ (a : ℕ) (L : Language) (A : Automaton) (same : Same a L (accepts A)) (Passed : Type 0) (sizes : Passed → (1 ≤ a) × (a ≤ maxLetters))
+    (buf : List ℕ) (o : Outcome) (passed : Passed → o ≡ resultOf a A (length buf))
+    (writes : (out : List ℕ) → o ≡ wrote out → Passed) (refuses : (k : ℕ) → o ≡ refused 11 0 k → Passed) where
+  granted : (n : ℕ) → answerOf o ≡ Done n → (take n (bufferOf o buf) ≡ encode a (minimalOf a A)) × (dimensionOf a A ≤ maxStates) × Passed
+  granted n e =
+      let g = answer-done o n e in
+      let p = writes (g .0) (g .1) in
+      let w = result-wrote a A (length buf) (g .0) (sym (passed p) ∙ g .1) in
+      (outcome-take o (g .0) buf n (g .1) (g .2) ∙ w .1, w .0, p)
+
+  limits : (r : Written) → r ≡ answerOf o → Limits 11 maxStates Passed (IsDimension a L) r
+  unfolding resultOf
+  limits = limits-of 11 maxStates (dimensionOf a A) (fit (length buf) (encode a (minimalOf a A))) o Passed (IsDimension a L) passed refuses
+      (λ k e. let z = fit-twelve (length buf) (encode a (minimalOf a A)) 11 0 k e in omega arith)
+      (dimension-language a L A same)
+      (λ k m. dimension-unique a L k (dimensionOf a A) m (dimension-language a L A same))
+
+  -- The claims follow from the answer and the buffer.
+  promises : (exit : List ℕ) (r : Written) → r ≡ answerOf o → exit ≡ bufferOf o buf → Promises a L Passed o buf exit r
+  promises exit r answer buffer = (answer, (buffer, (words, (form, limits r answer))))
+    where
+      words : (n : ℕ) → r ≡ Done n → Same a L (accepts (automatonOf (take n exit)))
+      words n e =
+          let g = granted n (sym answer ∙ e) in
+          subst (λ x. Same a L (accepts (automatonOf x))) (sym (ap (take n) buffer ∙ g .0)) (result-words a L A same (g .1))
+
+      form : (n : ℕ) → r ≡ Done n → MinimalRecord a L (take n exit)
+      form n e =
+          let g = granted n (sym answer ∙ e) in
+          let z = sizes (g .2) in
+          subst (MinimalRecord a L) (sym (ap (take n) buffer ∙ g .0)) (result-record a L A same (g .1) (z .0) (z .1))
+
+  pub service-of : Service a L Passed buf o
+  service-of = (
+    λ number which place r e answer. promises buf r (answer ∙ ap answerOf (sym e)) (ap (λ x. bufferOf x buf) (sym e)),
+    λ t m exit r p B answer buffer. let q = built-result a L A t m (length buf) same B ∙ sym (passed p) in promises exit r (answer ∙ ap answerOf q) (buffer ∙ ap (λ x. bufferOf x buf) q),
+  )

@@ -1,0 +1,203 @@
+// Sum, complement and mirror: from records to the minimal record of the result.
+ghost use mathlib.Core.Path.{_≡_};
+ghost use Prim.Native.Nat.{ℕ, _+_, _≤_, _<_};
+ghost use lib.ListN.{length, take};
+ghost use Rattle.automata.specs.Automaton.{accepts};
+ghost use Rattle.automata.specs.Language.{Same, symmetricDifference, complement, reversal};
+ghost use Rattle.automata.specs.Dimension.{IsDimension};
+ghost use Rattle.rows.specs.Row.{width, mask};
+ghost use Rattle.rows.specs.Table.{blocks, size};
+ghost use Rattle.rows.specs.Machine.{automatonIn, Valid};
+ghost use Rattle.comparison.specs.Sum.{Filled};
+ghost use Rattle.record.specs.Record.{maxStates, lettersOf, WellFormed, automatonOf};
+ghost use Rattle.record.specs.Outcome.{answerOf, bufferOf};
+ghost use Rattle.operations.specs.Operations.{resultOf, refusedAs, sumOutcome, complementOutcome, mirrorOutcome, MinimalRecord, Operands, Limits};
+ghost use Rattle.operations.specs.Inner.{Built};
+use operands::Pair;
+use record::Checked;
+use record::Written;
+use rows::Machine;
+use rows::Row;
+use rows::Table;
+
+const MAX_STATES: usize = 32;
+
+// The minimal record of the automaton of t and m, or refusal 11 or 12.
+pub fn finish(t: &Table, m: Machine, out: &mut [u8]) -> Written
+    requires { ⌜ Valid (now t) m ⌝ }
+    ensures answer { λ r. ⌜ r ≡ answerOf (resultOf (m .letters) (automatonIn (now (t .entry)) m) (length (now (out .entry)))) ⌝ }
+    ensures buffer { λ _. ⌜ now (out .exit) ≡ bufferOf (resultOf (m .letters) (automatonIn (now (t .entry)) m) (length (now (out .entry)))) (now (out .entry)) ⌝ }
+{
+    let mut u = [0u64; 512];
+    let mut b = [0u64; 512];
+    let mut c = [0u64; 512];
+    let mut s = [0u64; 512];
+    let g = reduction::minimise(t, m, &mut u, &mut b, &mut c, &mut s);
+    let d = g.states;
+    if MAX_STATES < d {
+        return Written::Refused {
+            number: 11,
+            record: 0,
+            place: d,
+        };
+    }
+    record::write(&s, g, out)
+}
+
+// A refusal of the checks, as the answer of an operation.
+pub fn refuse(p: Pair) -> Written
+    ensures { λ r. ⌜ r ≡ refusedAs p ⌝ }
+{
+    match p {
+        Pair::Both => Written::Done { length: 0 },
+        Pair::Refused {
+            number,
+            record,
+            place,
+        } => Written::Refused {
+            number: number,
+            record: record,
+            place: place,
+        },
+    }
+}
+
+// Two automata over the same letters side by side, the rows in s.
+fn add(t: &Table, g: Machine, u: &Table, h: Machine, s: &mut Table) -> Machine
+    requires { ⌜ Valid (now t) g × Valid (now u) h × (h .letters ≡ g .letters) × (g .states < width) × (g .states + h .states ≤ width) × (length (now s) ≡ size) ⌝ }
+    ensures { λ r. ⌜ Built (g .letters) (symmetricDifference (accepts (automatonIn (now (t .entry)) g)) (accepts (automatonIn (now (u .entry)) h))) (now (s .exit)) r ⌝ }
+{
+    let n = g.states;
+    let k = h.states;
+    let a = g.letters;
+    comparison::join(t, u, s, a, n, k);
+    let i = rows::moved(h.initial, n);
+    let f = rows::moved(h.finals, n);
+    let initial = rows::xor(g.initial, i);
+    let finals = rows::xor(g.finals, f);
+    Machine {
+        states: n + k,
+        letters: a,
+        initial: initial,
+        finals: finals,
+    }
+}
+
+// The automaton of one state that accepts every word over a letters, its rows in t.
+fn all_words(t: &mut Table, a: usize, one: Row)
+    requires { ⌜ (a ≤ blocks) × (mask one ≡ 1) × (length (now t) ≡ size) ⌝ }
+    ensures { λ _. ⌜ Filled a 1 (λ l i. 1) (now (t .exit)) ⌝ }
+{
+    let mut l: usize = 0;
+    while l < a {
+        rows::store(t, l, 0, one);
+        l += 1;
+    }
+}
+
+// The sum of two well-formed records over the same letters, its rows in s.
+fn add_records(first: &[u8], second: &[u8], s: &mut Table) -> Machine
+    requires { ⌜ Operands (now first) (now second) × (length (now s) ≡ size) ⌝ }
+    ensures { λ r. ⌜ Built (lettersOf (now (first .entry))) (symmetricDifference (accepts (automatonOf (now (first .entry)))) (accepts (automatonOf (now (second .entry))))) (now (s .exit)) r ⌝ }
+{
+    let mut t = [0u64; 512];
+    let mut u = [0u64; 512];
+    let g = record::read(first, &mut t);
+    let h = record::read(second, &mut u);
+    add(&t, g, &u, h, s)
+}
+
+// A well-formed record beside the automaton of every word, its rows in s.
+fn invert_record(bytes: &[u8], s: &mut Table) -> Machine
+    requires { ⌜ WellFormed (now bytes) × (length (now s) ≡ size) ⌝ }
+    ensures { λ r. ⌜ Built (lettersOf (now (bytes .entry))) (complement (accepts (automatonOf (now (bytes .entry))))) (now (s .exit)) r ⌝ }
+{
+    let mut t = [0u64; 512];
+    let mut u = [0u64; 512];
+    let g = record::read(bytes, &mut t);
+    let a = g.letters;
+    let one = rows::unit(0);
+    all_words(&mut u, a, one);
+    let h = Machine {
+        states: 1,
+        letters: a,
+        initial: one,
+        finals: one,
+    };
+    add(&t, g, &u, h, s)
+}
+
+// A well-formed record transposed, its initial and final states exchanged, its rows in s.
+fn turn_record(bytes: &[u8], s: &mut Table) -> Machine
+    requires { ⌜ WellFormed (now bytes) × (length (now s) ≡ size) ⌝ }
+    ensures { λ r. ⌜ Built (lettersOf (now (bytes .entry))) (reversal (accepts (automatonOf (now (bytes .entry))))) (now (s .exit)) r ⌝ }
+{
+    let mut t = [0u64; 512];
+    let g = record::read(bytes, &mut t);
+    let n = g.states;
+    let a = g.letters;
+    let i = g.initial;
+    let f = g.finals;
+    transpose::transpose(&t, s, a, n);
+    Machine {
+        states: n,
+        letters: a,
+        initial: f,
+        finals: i,
+    }
+}
+
+// Writes the minimal record of the words that just one of two records accepts. Of every service below:
+// `words`: where it is granted with length n, the first n bytes of the buffer are a record that accepts exactly the words of the result.
+// `form`: they are its minimal record. It is well formed, over the operand's letters, and its states are the dimension of the result;
+// no xor automaton for those words, of any size, has fewer; and every one of them has these bytes as its minimal record.
+// `limits`: refusal 11 comes exactly where the operands pass and that dimension is over 32, its place the dimension.
+pub fn sum(first: &[u8], second: &[u8], out: &mut [u8]) -> Written
+    ensures answer { λ r. ⌜ r ≡ answerOf (sumOutcome (now (first .entry)) (now (second .entry)) (length (now (out .entry)))) ⌝ }
+    ensures buffer { λ _. ⌜ now (out .exit) ≡ bufferOf (sumOutcome (now (first .entry)) (now (second .entry)) (length (now (out .entry)))) (now (out .entry)) ⌝ }
+    ensures words { λ r. ⌜ ((n : ℕ) → r ≡ Written.Done n → Same (lettersOf (now (first .entry))) (symmetricDifference (accepts (automatonOf (now (first .entry)))) (accepts (automatonOf (now (second .entry))))) (accepts (automatonOf (take n (now (out .exit)))))) ⌝ }
+    ensures form { λ r. ⌜ ((n : ℕ) → r ≡ Written.Done n → MinimalRecord (lettersOf (now (first .entry))) (symmetricDifference (accepts (automatonOf (now (first .entry)))) (accepts (automatonOf (now (second .entry))))) (take n (now (out .exit)))) ⌝ }
+    ensures limits { λ r. ⌜ Limits 11 maxStates (Operands (now (first .entry)) (now (second .entry))) (IsDimension (lettersOf (now (first .entry))) (symmetricDifference (accepts (automatonOf (now (first .entry)))) (accepts (automatonOf (now (second .entry)))))) r ⌝ }
+{
+    let p = operands::check_pair(first, second);
+    let Pair::Both = p else {
+        return refuse(p);
+    };
+    let mut s = [0u64; 512];
+    let m = add_records(first, second, &mut s);
+    finish(&s, m, out)
+}
+
+// Writes the minimal record of the words over the record's letters that it does not accept. `words`, `form`, `limits`: as for `sum`.
+pub fn complement(bytes: &[u8], out: &mut [u8]) -> Written
+    ensures answer { λ r. ⌜ r ≡ answerOf (complementOutcome (now (bytes .entry)) (length (now (out .entry)))) ⌝ }
+    ensures buffer { λ _. ⌜ now (out .exit) ≡ bufferOf (complementOutcome (now (bytes .entry)) (length (now (out .entry)))) (now (out .entry)) ⌝ }
+    ensures words { λ r. ⌜ ((n : ℕ) → r ≡ Written.Done n → Same (lettersOf (now (bytes .entry))) (complement (accepts (automatonOf (now (bytes .entry))))) (accepts (automatonOf (take n (now (out .exit)))))) ⌝ }
+    ensures form { λ r. ⌜ ((n : ℕ) → r ≡ Written.Done n → MinimalRecord (lettersOf (now (bytes .entry))) (complement (accepts (automatonOf (now (bytes .entry))))) (take n (now (out .exit)))) ⌝ }
+    ensures limits { λ r. ⌜ Limits 11 maxStates (WellFormed (now (bytes .entry))) (IsDimension (lettersOf (now (bytes .entry))) (complement (accepts (automatonOf (now (bytes .entry)))))) r ⌝ }
+{
+    let c = record::check(bytes);
+    let Checked::Good = c else {
+        return record::refused(c, 1);
+    };
+    let mut s = [0u64; 512];
+    let m = invert_record(bytes, &mut s);
+    finish(&s, m, out)
+}
+
+// Writes the minimal record of the reversed words. `words`, `form`, `limits`: as for `sum`.
+pub fn mirror(bytes: &[u8], out: &mut [u8]) -> Written
+    ensures answer { λ r. ⌜ r ≡ answerOf (mirrorOutcome (now (bytes .entry)) (length (now (out .entry)))) ⌝ }
+    ensures buffer { λ _. ⌜ now (out .exit) ≡ bufferOf (mirrorOutcome (now (bytes .entry)) (length (now (out .entry)))) (now (out .entry)) ⌝ }
+    ensures words { λ r. ⌜ ((n : ℕ) → r ≡ Written.Done n → Same (lettersOf (now (bytes .entry))) (reversal (accepts (automatonOf (now (bytes .entry))))) (accepts (automatonOf (take n (now (out .exit)))))) ⌝ }
+    ensures form { λ r. ⌜ ((n : ℕ) → r ≡ Written.Done n → MinimalRecord (lettersOf (now (bytes .entry))) (reversal (accepts (automatonOf (now (bytes .entry))))) (take n (now (out .exit)))) ⌝ }
+    ensures limits { λ r. ⌜ Limits 11 maxStates (WellFormed (now (bytes .entry))) (IsDimension (lettersOf (now (bytes .entry))) (reversal (accepts (automatonOf (now (bytes .entry)))))) r ⌝ }
+{
+    let c = record::check(bytes);
+    let Checked::Good = c else {
+        return record::refused(c, 1);
+    };
+    let mut s = [0u64; 512];
+    let m = turn_record(bytes, &mut s);
+    finish(&s, m, out)
+}
