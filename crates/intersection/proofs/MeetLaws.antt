@@ -22,6 +22,7 @@ use Rattle.comparison.proofs.SumLaws.{if-low, if-high}
 use Rattle.record.specs.Record.{lettersOf, automatonOf}
 use Rattle.record.specs.Outcome.{Outcome, refused, wrote, answerOf}
 use Rattle.record.specs.declared.Written.{Written}
+use Rattle.record.specs.declared.Written.the-variants.{Refused}
 use Rattle.operands.specs.Operands.{pairOf}
 use Rattle.operands.specs.declared.Pair.the-variants.{Refused as Bad}
 use Rattle.operations.specs.Operations.{resultOf, Operands, Limits}
@@ -105,7 +106,7 @@ module _ (bs cs : List ℕ) where
       go (yes h) = absurd (other product (sym e ∙ if-low maxProduct product (refused 10 0 product) (result room) h))
       go (no h) = omega (arith, unique p D)
 
-  pub meet-products : (room : ℕ) (r : Written) → r ≡ answerOf (meetOutcome bs cs room) → Limits 10 maxProduct (Operands bs cs) (DimensionProduct (lettersOf bs) (accepts (automatonOf bs)) (accepts (automatonOf cs))) r
+  pub meet-products : (room : ℕ) (r : Written) → r ≡ answerOf (meetOutcome bs cs room) → Limits (Refused 10 0) maxProduct (Operands bs cs) (DimensionProduct (lettersOf bs) (accepts (automatonOf bs)) (accepts (automatonOf cs))) r
   meet-products room = limits-of 10 maxProduct product (result room) (meetOutcome bs cs room) (Operands bs cs) (DimensionProduct (lettersOf bs) (accepts (automatonOf bs)) (accepts (automatonOf cs)))
       (passed room) (meet-passed room 10) (λ k e. let z = result-number (lettersOf bs) (meetOf (automatonOf bs) (automatonOf cs)) room 10 0 k e in omega arith)
       dimensions unique

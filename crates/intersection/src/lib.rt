@@ -9,7 +9,7 @@ ghost use Rattle.rows.specs.Row.{width, mask};
 ghost use Rattle.rows.specs.Table.{blocks, size, at};
 ghost use Rattle.rows.specs.Machine.{automatonIn, Valid};
 ghost use Rattle.comparison.specs.Sum.{Filled};
-ghost use Rattle.record.specs.Record.{maxStates, lettersOf, automatonOf};
+ghost use Rattle.record.specs.Record.{maxStates, lettersOf, languageOf};
 ghost use Rattle.record.specs.Outcome.{answerOf, bufferOf};
 ghost use Rattle.operations.specs.Operations.{MinimalRecord, Operands, Limits};
 ghost use Rattle.operations.specs.Inner.{Built};
@@ -93,10 +93,10 @@ fn product(t: &Table, g: Machine, u: &Table, h: Machine, s: &mut Table) -> Machi
 pub fn meet(first: &[u8], second: &[u8], out: &mut [u8]) -> Written
     ensures answer { λ r. ⌜ r ≡ answerOf (meetOutcome (now (first .entry)) (now (second .entry)) (length (now (out .entry)))) ⌝ }
     ensures buffer { λ _. ⌜ now (out .exit) ≡ bufferOf (meetOutcome (now (first .entry)) (now (second .entry)) (length (now (out .entry)))) (now (out .entry)) ⌝ }
-    ensures products { λ r. ⌜ Limits 10 maxProduct (Operands (now (first .entry)) (now (second .entry))) (DimensionProduct (lettersOf (now (first .entry))) (accepts (automatonOf (now (first .entry)))) (accepts (automatonOf (now (second .entry))))) r ⌝ }
-    ensures words { λ r. ⌜ ((n : ℕ) → r ≡ Written.Done n → Same (lettersOf (now (first .entry))) (intersection (accepts (automatonOf (now (first .entry)))) (accepts (automatonOf (now (second .entry))))) (accepts (automatonOf (take n (now (out .exit)))))) ⌝ }
-    ensures form { λ r. ⌜ ((n : ℕ) → r ≡ Written.Done n → MinimalRecord (lettersOf (now (first .entry))) (intersection (accepts (automatonOf (now (first .entry)))) (accepts (automatonOf (now (second .entry))))) (take n (now (out .exit)))) ⌝ }
-    ensures limits { λ r. ⌜ Limits 11 maxStates (Operands (now (first .entry)) (now (second .entry)) × Small (lettersOf (now (first .entry))) (accepts (automatonOf (now (first .entry)))) (accepts (automatonOf (now (second .entry))))) (IsDimension (lettersOf (now (first .entry))) (intersection (accepts (automatonOf (now (first .entry)))) (accepts (automatonOf (now (second .entry)))))) r ⌝ }
+    ensures products { λ r. ⌜ Limits (Written.Refused 10 0) maxProduct (Operands (now (first .entry)) (now (second .entry))) (DimensionProduct (lettersOf (now (first .entry))) (languageOf (now (first .entry))) (languageOf (now (second .entry)))) r ⌝ }
+    ensures words { λ r. ⌜ ((n : ℕ) → r ≡ Written.Done n → Same (lettersOf (now (first .entry))) (intersection (languageOf (now (first .entry))) (languageOf (now (second .entry)))) (languageOf (take n (now (out .exit))))) ⌝ }
+    ensures form { λ r. ⌜ ((n : ℕ) → r ≡ Written.Done n → MinimalRecord (lettersOf (now (first .entry))) (intersection (languageOf (now (first .entry))) (languageOf (now (second .entry)))) (take n (now (out .exit)))) ⌝ }
+    ensures limits { λ r. ⌜ Limits (Written.Refused 11 0) maxStates (Operands (now (first .entry)) (now (second .entry)) × Small (lettersOf (now (first .entry))) (languageOf (now (first .entry))) (languageOf (now (second .entry)))) (IsDimension (lettersOf (now (first .entry))) (intersection (languageOf (now (first .entry))) (languageOf (now (second .entry))))) r ⌝ }
 {
     let p = operands::check_pair(first, second);
     let Pair::Both = p else {

@@ -1,19 +1,12 @@
 -- What a reply of the comparison tells: the answer behind it, by number and value.
 use mathlib.Core.Path.{_≡_, refl, sym, ap, _∙_}
-use mathlib.Core.Bool.{Bool, true, false, cond}
 use mathlib.Core.List.{List}
 use mathlib.Core.Option.{Option, none, some}
 use Prim.Native.Nat.{ℕ, _≤_}
 use native.Mathlib.Omega.{arith}
-use lib.Dec.{eqb}
 use Rattle.automata.specs.Automaton.{Automaton}
-use Rattle.record.specs.Record.{lettersOf, checkOf}
 use Rattle.record.specs.Outcome.{Outcome, refused, wrote}
-use Rattle.record.specs.declared.Checked.{Checked}
-use Rattle.record.specs.declared.Checked.the-variants.{Good, Refused as NotGood}
-use Rattle.operands.specs.Operands.{named, pairOf, afterPair}
-use Rattle.operands.specs.declared.Pair.{Pair}
-use Rattle.operands.specs.declared.Pair.the-variants.{Both, Refused as NotBoth}
+use Rattle.operands.specs.Operands.{pairOf}
 use Rattle.compare.specs.Compare.{differenceOf, wordOutcome, compareOutcome, comparedAs}
 use Rattle.compare.specs.declared.Side.{Side}
 use Rattle.compare.specs.declared.Side.the-variants.{First, Second}
@@ -21,31 +14,9 @@ use Rattle.compare.specs.declared.Compared.{Compared}
 use Rattle.compare.specs.declared.Compared.the-variants.{Same, Differs, Refused}
 use Rattle.nxa.specs.declared.Reply.{Reply}
 use Rattle.nxa.specs.Reply.{refusal, sideNumber, ofCompared}
-use Rattle.nxa.proofs.Granted.{Numbered, check-numbered, Reasoned, fit-reasoned}
+use Rattle.nxa.proofs.Granted.{Reasoned, fit-reasoned, pair-reasoned}
 
 -- ---- no refusal of a comparison has number 0
-
-abbrev Paired : Pair → Type 0
-Paired Both = Unit {0}
-Paired (NotBoth code which place) = 1 ≤ code
-
-named-paired : (c : Checked) (which : ℕ) (rest : Pair) → Numbered c → Paired rest → Paired (named c which rest)
-named-paired Good which rest n r = r
-named-paired (NotGood code place) which rest n r = n code place refl
-
-pair-paired : (bs cs : List ℕ) → Paired (pairOf bs cs)
-unfolding pairOf
-pair-paired bs cs =
-    named-paired (checkOf bs) 1 _ (check-numbered bs)
-    (named-paired (checkOf cs) 2 _ (check-numbered cs) (go (eqb (lettersOf bs) (lettersOf cs))))
-  where
-    go : (b : Bool) → Paired (cond b Both (NotBoth 8 2 6))
-    go true = tt
-    go false = omega arith
-
-after-reasoned : (p : Pair) (rest : Outcome) → Paired p → Reasoned rest → Reasoned (afterPair p rest)
-after-reasoned Both rest h r = r
-after-reasoned (NotBoth code which place) rest h r = h
 
 word-reasoned : (room : ℕ) (d : Option (List ℕ)) → Reasoned (wordOutcome room d)
 word-reasoned room none = tt
@@ -53,7 +24,7 @@ word-reasoned room (some w) = fit-reasoned room w
 
 compare-reasoned : (bs cs : List ℕ) (room : ℕ) → Reasoned (compareOutcome bs cs room)
 unfolding compareOutcome
-compare-reasoned bs cs room = after-reasoned (pairOf bs cs) _ (pair-paired bs cs) (word-reasoned room (differenceOf bs cs))
+compare-reasoned bs cs room = pair-reasoned bs cs (wordOutcome room (differenceOf bs cs)) (word-reasoned room (differenceOf bs cs))
 
 abbrev Told : Compared → Type 0
 Told Same = Unit {0}

@@ -13,6 +13,9 @@ use Rattle.record.specs.declared.Checked.{Checked}
 use Rattle.record.specs.declared.Checked.the-variants.{Good, Refused}
 use Rattle.record.specs.declared.Written.{Written}
 use Rattle.record.specs.declared.Written.the-variants.{Done as Wrote}
+use Rattle.operands.specs.Operands.{named, pairOf, afterPair}
+use Rattle.operands.specs.declared.Pair.{Pair}
+use Rattle.operands.specs.declared.Pair.the-variants.{Both, Refused as NotBoth}
 use Rattle.minimal.specs.Minimal.{minimalBytes, minimalOutcome, minimisedAs}
 use Rattle.minimal.specs.declared.Minimised.{Minimised}
 use Rattle.minimal.specs.declared.Minimised.the-variants.{Done}
@@ -78,7 +81,7 @@ abbrev pub Reasoned : Outcome → Type 0
 Reasoned (refused code which place) = 1 ≤ code
 Reasoned (wrote out) = Unit {0}
 
-checked-reasoned : (c : Checked) (which : ℕ) (rest : Outcome) → Numbered c → Reasoned rest → Reasoned (checked c which rest)
+pub checked-reasoned : (c : Checked) (which : ℕ) (rest : Outcome) → Numbered c → Reasoned rest → Reasoned (checked c which rest)
 checked-reasoned Good which rest n r = r
 checked-reasoned (Refused code place) which rest n r = n code place refl
 
@@ -89,6 +92,32 @@ fit-reasoned room out = go (ltb room (length out))
     go : (b : Bool) → Reasoned (cond b (refused 12 0 (length out)) (wrote out))
     go true = omega arith
     go false = tt
+
+-- The checks of two records.
+abbrev Paired : Pair → Type 0
+Paired Both = Unit {0}
+Paired (NotBoth code which place) = 1 ≤ code
+
+named-paired : (c : Checked) (which : ℕ) (rest : Pair) → Numbered c → Paired rest → Paired (named c which rest)
+named-paired Good which rest n r = r
+named-paired (Refused code place) which rest n r = n code place refl
+
+pair-paired : (bs cs : List ℕ) → Paired (pairOf bs cs)
+unfolding pairOf
+pair-paired bs cs =
+    named-paired (checkOf bs) 1 _ (check-numbered bs)
+    (named-paired (checkOf cs) 2 _ (check-numbered cs) (go (eqb (lettersOf bs) (lettersOf cs))))
+  where
+    go : (b : Bool) → Paired (cond b Both (NotBoth 8 2 6))
+    go true = tt
+    go false = omega arith
+
+after-reasoned : (p : Pair) (rest : Outcome) → Paired p → Reasoned rest → Reasoned (afterPair p rest)
+after-reasoned Both rest h r = r
+after-reasoned (NotBoth code which place) rest h r = h
+
+pub pair-reasoned : (bs cs : List ℕ) (rest : Outcome) → Reasoned rest → Reasoned (afterPair (pairOf bs cs) rest)
+pair-reasoned bs cs rest r = after-reasoned (pairOf bs cs) rest (pair-paired bs cs) r
 
 minimal-reasoned : (bs : List ℕ) (room : ℕ) → Reasoned (minimalOutcome bs room)
 unfolding minimalOutcome

@@ -1,3 +1,4 @@
 -- Laws that belong to no one function.
 pub mod Granted
 pub mod Compared
+pub mod Operations

@@ -5,18 +5,20 @@ ghost use mathlib.Core.List.{List};
 ghost use Prim.Native.Nat.{ℕ, _+_, _≤_, _<_};
 ghost use lib.ListN.{length, take};
 ghost use Rattle.automata.specs.Automaton.{Automaton, accepts};
-ghost use Rattle.automata.specs.Language.{Same};
+ghost use Rattle.automata.specs.Language.{Same, symmetricDifference, intersection, complement, reversal};
 ghost use Rattle.automata.specs.Dimension.{IsDimension};
 ghost use Rattle.automata.specs.Minimal.{Minimal};
 ghost use Rattle.automata.specs.FirstDifference.{FirstDifference};
 ghost use Rattle.automata.specs.MinimalOf.{dimensionOf, minimalOf};
 ghost use Rattle.record.specs.Bytes.{number as numberAt};
-ghost use Rattle.record.specs.Record.{rowBytes, initialAt, finalAt, statesOf, lettersOf, checkOf, WellFormed, automatonOf, languageOf, encode};
+ghost use Rattle.record.specs.Record.{maxStates, rowBytes, initialAt, finalAt, statesOf, lettersOf, checkOf, WellFormed, automatonOf, languageOf, encode};
 ghost use Rattle.record.specs.Outcome.{answerOf, bufferOf, rewriteOf};
 ghost use Rattle.testing.specs.Testing.{testOf};
 ghost use Rattle.minimal.specs.Minimal.{minimalBytes, minimalOutcome, minimisedAs};
 ghost use Rattle.compare.specs.Compare.{differenceOf, compareOutcome, acceptorOf, comparedAs};
 ghost use Rattle.compare.specs.declared.Side.{Side};
+ghost use Rattle.operations.specs.Operations.{sumOutcome, complementOutcome, mirrorOutcome, MinimalRecord, Operands, Limits};
+ghost use Rattle.intersection.specs.Meet.{maxProduct, meetOutcome, DimensionProduct, Small};
 ghost use Rattle.catalogue.specs.Words.{wordsOf};
 ghost use Rattle.catalogue.specs.Entries.{lettersAt, catalogueOf};
 ghost use Rattle.nxa.specs.Reply.{reply, refusal, ofChecked, ofWritten, ofTested, ofMinimised, sideNumber, ofCompared};
@@ -202,6 +204,61 @@ pub extern "C" fn nxa_compare(first: &[u8], second: &[u8], word: &mut [u8]) -> R
     ensures withheld { λ r. ⌜ (WellFormed (now (first .entry)) → WellFormed (now (second .entry)) → lettersOf (now (first .entry)) ≡ lettersOf (now (second .entry)) → (w : List ℕ) → FirstDifference (lettersOf (now (first .entry))) (languageOf (now (first .entry))) (languageOf (now (second .entry))) w → (length (now (word .entry)) < length w → r ≡ refusal 12 0 (length w)) × ((k : ℕ) → r ≡ refusal 12 0 k → (k ≡ length w) × (length (now (word .entry)) < length w))) ⌝ }
 {
     of_compared(compare::compare(first, second, word))
+}
+
+// Writes the minimal record of the words that just one of two records accepts. Of every operation below:
+// `words`: where number is 0, the first `length` bytes of the buffer are a record that accepts exactly the words of the result.
+// `form`: they are its minimal record. It is well formed, over the operand's letters, and its states are the dimension of the result;
+// no xor automaton for those words, of any size, has fewer; and every one of them has these bytes as its minimal record.
+// `limits`: refusal 11 comes exactly where the operands pass and that dimension is over 32, its place the dimension.
+#[no_mangle]
+pub extern "C" fn nxa_sum(first: &[u8], second: &[u8], out: &mut [u8]) -> Reply
+    ensures reply { λ r. ⌜ r ≡ ofWritten (answerOf (sumOutcome (now (first .entry)) (now (second .entry)) (length (now (out .entry))))) ⌝ }
+    ensures buffer { λ _. ⌜ now (out .exit) ≡ bufferOf (sumOutcome (now (first .entry)) (now (second .entry)) (length (now (out .entry)))) (now (out .entry)) ⌝ }
+    ensures words { λ r. ⌜ (r .number ≡ 0 → Same (lettersOf (now (first .entry))) (symmetricDifference (languageOf (now (first .entry))) (languageOf (now (second .entry)))) (languageOf (take (r .length) (now (out .exit))))) ⌝ }
+    ensures form { λ r. ⌜ (r .number ≡ 0 → MinimalRecord (lettersOf (now (first .entry))) (symmetricDifference (languageOf (now (first .entry))) (languageOf (now (second .entry)))) (take (r .length) (now (out .exit)))) ⌝ }
+    ensures limits { λ r. ⌜ Limits (refusal 11 0) maxStates (Operands (now (first .entry)) (now (second .entry))) (IsDimension (lettersOf (now (first .entry))) (symmetricDifference (languageOf (now (first .entry))) (languageOf (now (second .entry))))) r ⌝ }
+{
+    of_written(operations::sum(first, second, out))
+}
+
+// Writes the minimal record of the words that both records accept. `words` and `form`: as for the sum.
+// `products`: refusal 10 comes exactly where the records pass and the product of the dimensions of their languages is over 64.
+// `limits`: refusal 11 comes exactly where, besides, that product is not over 64 and the dimension of the meet is over 32.
+#[no_mangle]
+pub extern "C" fn nxa_meet(first: &[u8], second: &[u8], out: &mut [u8]) -> Reply
+    ensures reply { λ r. ⌜ r ≡ ofWritten (answerOf (meetOutcome (now (first .entry)) (now (second .entry)) (length (now (out .entry))))) ⌝ }
+    ensures buffer { λ _. ⌜ now (out .exit) ≡ bufferOf (meetOutcome (now (first .entry)) (now (second .entry)) (length (now (out .entry)))) (now (out .entry)) ⌝ }
+    ensures products { λ r. ⌜ Limits (refusal 10 0) maxProduct (Operands (now (first .entry)) (now (second .entry))) (DimensionProduct (lettersOf (now (first .entry))) (languageOf (now (first .entry))) (languageOf (now (second .entry)))) r ⌝ }
+    ensures words { λ r. ⌜ (r .number ≡ 0 → Same (lettersOf (now (first .entry))) (intersection (languageOf (now (first .entry))) (languageOf (now (second .entry)))) (languageOf (take (r .length) (now (out .exit))))) ⌝ }
+    ensures form { λ r. ⌜ (r .number ≡ 0 → MinimalRecord (lettersOf (now (first .entry))) (intersection (languageOf (now (first .entry))) (languageOf (now (second .entry)))) (take (r .length) (now (out .exit)))) ⌝ }
+    ensures limits { λ r. ⌜ Limits (refusal 11 0) maxStates (Operands (now (first .entry)) (now (second .entry)) × Small (lettersOf (now (first .entry))) (languageOf (now (first .entry))) (languageOf (now (second .entry)))) (IsDimension (lettersOf (now (first .entry))) (intersection (languageOf (now (first .entry))) (languageOf (now (second .entry))))) r ⌝ }
+{
+    of_written(intersection::meet(first, second, out))
+}
+
+// Writes the minimal record of the words over the record's letters that it does not accept. `words`, `form`, `limits`: as for the sum.
+#[no_mangle]
+pub extern "C" fn nxa_complement(record: &[u8], out: &mut [u8]) -> Reply
+    ensures reply { λ r. ⌜ r ≡ ofWritten (answerOf (complementOutcome (now («record» .entry)) (length (now (out .entry))))) ⌝ }
+    ensures buffer { λ _. ⌜ now (out .exit) ≡ bufferOf (complementOutcome (now («record» .entry)) (length (now (out .entry)))) (now (out .entry)) ⌝ }
+    ensures words { λ r. ⌜ (r .number ≡ 0 → Same (lettersOf (now («record» .entry))) (complement (languageOf (now («record» .entry)))) (languageOf (take (r .length) (now (out .exit))))) ⌝ }
+    ensures form { λ r. ⌜ (r .number ≡ 0 → MinimalRecord (lettersOf (now («record» .entry))) (complement (languageOf (now («record» .entry)))) (take (r .length) (now (out .exit)))) ⌝ }
+    ensures limits { λ r. ⌜ Limits (refusal 11 0) maxStates (WellFormed (now («record» .entry))) (IsDimension (lettersOf (now («record» .entry))) (complement (languageOf (now («record» .entry))))) r ⌝ }
+{
+    of_written(operations::complement(record, out))
+}
+
+// Writes the minimal record of the reversed words. `words`, `form`, `limits`: as for the sum.
+#[no_mangle]
+pub extern "C" fn nxa_mirror(record: &[u8], out: &mut [u8]) -> Reply
+    ensures reply { λ r. ⌜ r ≡ ofWritten (answerOf (mirrorOutcome (now («record» .entry)) (length (now (out .entry))))) ⌝ }
+    ensures buffer { λ _. ⌜ now (out .exit) ≡ bufferOf (mirrorOutcome (now («record» .entry)) (length (now (out .entry)))) (now (out .entry)) ⌝ }
+    ensures words { λ r. ⌜ (r .number ≡ 0 → Same (lettersOf (now («record» .entry))) (reversal (languageOf (now («record» .entry)))) (languageOf (take (r .length) (now (out .exit))))) ⌝ }
+    ensures form { λ r. ⌜ (r .number ≡ 0 → MinimalRecord (lettersOf (now («record» .entry))) (reversal (languageOf (now («record» .entry)))) (take (r .length) (now (out .exit)))) ⌝ }
+    ensures limits { λ r. ⌜ Limits (refusal 11 0) maxStates (WellFormed (now («record» .entry))) (IsDimension (lettersOf (now («record» .entry))) (reversal (languageOf (now («record» .entry))))) r ⌝ }
+{
+    of_written(operations::mirror(record, out))
 }
 
 // Gives out a record of the catalogue by its number. Where the reply's number is 0, the first `length` bytes of the buffer are a

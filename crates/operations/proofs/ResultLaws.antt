@@ -130,7 +130,7 @@ module _ (number limit d : ℕ) (rest o : Outcome) (Passed : Type 0) (Measures :
     (earlier : (k : ℕ) → o ≡ refused number 0 k → Passed)
     (later : (k : ℕ) → rest ≡ refused number 0 k → ⊥)
     (measure : Measures d) (unique : (k : ℕ) → Measures k → k ≡ d) where
-  pub limits-of : (r : Written) → r ≡ answerOf o → Limits number limit Passed Measures r
+  pub limits-of : (r : Written) → r ≡ answerOf o → Limits (Refused number 0) limit Passed Measures r
   limits-of r e = record {
     refuses = λ p k m h. e ∙ ap answerOf (passed p ∙ if-low limit d (refused number 0 d) rest (omega (arith, unique k m))) ∙ ap (λ x. Refused number 0 x) (sym (unique k m));
     only = λ k q. let h = answer-refused o number 0 k (sym e ∙ q) in let p = earlier k h in go k p (sym (passed p) ∙ h) (decLt limit d);
@@ -149,7 +149,7 @@ module _ (number limit d : ℕ) (rest o : Outcome) (Passed : Type 0) (Measures :
 abbrev pub Promises : ℕ → Language → Type 0 → Outcome → List ℕ → List ℕ → Written → Type 0
 Promises a L Passed o buf exit r =
     (r ≡ answerOf o) × ((exit ≡ bufferOf o buf) × (((n : ℕ) → r ≡ Done n → Same a L (accepts (automatonOf (take n exit))))
-    × (((n : ℕ) → r ≡ Done n → MinimalRecord a L (take n exit)) × Limits 11 maxStates Passed (IsDimension a L) r)))
+    × (((n : ℕ) → r ≡ Done n → MinimalRecord a L (take n exit)) × Limits (Refused 11 0) maxStates Passed (IsDimension a L) r)))
 
 -- A refusal that leaves the buffer, and a result from an automaton in a table.
 abbrev pub Service : ℕ → Language → Type 0 → List ℕ → Outcome → Type 0
@@ -169,7 +169,7 @@ module _ (a : ℕ) (L : Language) (A : Automaton) (same : Same a L (accepts A)) 
       let w = result-wrote a A (length buf) (g .0) (sym (passed p) ∙ g .1) in
       (outcome-take o (g .0) buf n (g .1) (g .2) ∙ w .1, w .0, p)
 
-  limits : (r : Written) → r ≡ answerOf o → Limits 11 maxStates Passed (IsDimension a L) r
+  limits : (r : Written) → r ≡ answerOf o → Limits (Refused 11 0) maxStates Passed (IsDimension a L) r
   unfolding resultOf
   limits = limits-of 11 maxStates (dimensionOf a A) (fit (length buf) (encode a (minimalOf a A))) o Passed (IsDimension a L) passed refuses
       (λ k e. let z = fit-twelve (length buf) (encode a (minimalOf a A)) 11 0 k e in omega arith)

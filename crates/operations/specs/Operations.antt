@@ -5,7 +5,7 @@
 --   complementOutcome bs room
 --   mirrorOutcome bs room
 --   MinimalRecord a L out       out is the minimal record of the language L over a letters
---   Limits                      exactly when a limit refuses, and with which place
+--   Limits refusal limit        exactly when a limit refuses, and with which place
 use mathlib.Core.Path.{_≡_}
 use mathlib.Core.Bool.{cond}
 use mathlib.Core.List.{List}
@@ -60,7 +60,7 @@ pub record MinimalRecord (a : ℕ) (L : Language) (out : List ℕ) : Type 0 wher
 abbrev pub Operands : List ℕ → List ℕ → Type 0
 Operands bs cs = WellFormed bs × WellFormed cs × (lettersOf bs ≡ lettersOf cs)
 
--- The refusal of that number comes exactly where the earlier checks pass and what is measured is over the limit; its place is the measure.
-pub record Limits (number limit : ℕ) (Passed : Type 0) (Measures : ℕ → Type 0) (r : Written) : Type 0 where
-  pub refuses : Passed → (d : ℕ) → Measures d → limit < d → r ≡ Refused number 0 d
-  pub only : (d : ℕ) → r ≡ Refused number 0 d → Passed × Measures d × (limit < d)
+-- The answer r is that refusal exactly where the earlier checks pass and what is measured is over the limit; its place is the measure.
+pub record Limits {Answer : Type 0} (refusal : ℕ → Answer) (limit : ℕ) (Passed : Type 0) (Measures : ℕ → Type 0) (r : Answer) : Type 0 where
+  pub refuses : Passed → (d : ℕ) → Measures d → limit < d → r ≡ refusal d
+  pub only : (d : ℕ) → r ≡ refusal d → Passed × Measures d × (limit < d)

@@ -9,7 +9,7 @@ ghost use Rattle.rows.specs.Row.{width, mask};
 ghost use Rattle.rows.specs.Table.{blocks, size};
 ghost use Rattle.rows.specs.Machine.{automatonIn, Valid};
 ghost use Rattle.comparison.specs.Sum.{Filled};
-ghost use Rattle.record.specs.Record.{maxStates, lettersOf, WellFormed, automatonOf};
+ghost use Rattle.record.specs.Record.{maxStates, lettersOf, WellFormed, languageOf};
 ghost use Rattle.record.specs.Outcome.{answerOf, bufferOf};
 ghost use Rattle.operations.specs.Operations.{resultOf, refusedAs, sumOutcome, complementOutcome, mirrorOutcome, MinimalRecord, Operands, Limits};
 ghost use Rattle.operations.specs.Inner.{Built};
@@ -62,6 +62,18 @@ pub fn refuse(p: Pair) -> Written
     }
 }
 
+// A machine by its parts.
+fn machine(states: usize, letters: usize, initial: Row, finals: Row) -> Machine
+    ensures { λ r. ⌜ (r .states ≡ states) × (r .letters ≡ letters) × (r .initial ≡ initial) × (r .finals ≡ finals) ⌝ }
+{
+    Machine {
+        states: states,
+        letters: letters,
+        initial: initial,
+        finals: finals,
+    }
+}
+
 // Two automata over the same letters side by side, the rows in s.
 fn add(t: &Table, g: Machine, u: &Table, h: Machine, s: &mut Table) -> Machine
     requires { ⌜ Valid (now t) g × Valid (now u) h × (h .letters ≡ g .letters) × (g .states < width) × (g .states + h .states ≤ width) × (length (now s) ≡ size) ⌝ }
@@ -98,7 +110,7 @@ fn all_words(t: &mut Table, a: usize, one: Row)
 // The sum of two well-formed records over the same letters, its rows in s.
 fn add_records(first: &[u8], second: &[u8], s: &mut Table) -> Machine
     requires { ⌜ Operands (now first) (now second) × (length (now s) ≡ size) ⌝ }
-    ensures { λ r. ⌜ Built (lettersOf (now (first .entry))) (symmetricDifference (accepts (automatonOf (now (first .entry)))) (accepts (automatonOf (now (second .entry))))) (now (s .exit)) r ⌝ }
+    ensures { λ r. ⌜ Built (lettersOf (now (first .entry))) (symmetricDifference (languageOf (now (first .entry))) (languageOf (now (second .entry)))) (now (s .exit)) r ⌝ }
 {
     let mut t = [0u64; 512];
     let mut u = [0u64; 512];
@@ -110,7 +122,7 @@ fn add_records(first: &[u8], second: &[u8], s: &mut Table) -> Machine
 // A well-formed record beside the automaton of every word, its rows in s.
 fn invert_record(bytes: &[u8], s: &mut Table) -> Machine
     requires { ⌜ WellFormed (now bytes) × (length (now s) ≡ size) ⌝ }
-    ensures { λ r. ⌜ Built (lettersOf (now (bytes .entry))) (complement (accepts (automatonOf (now (bytes .entry))))) (now (s .exit)) r ⌝ }
+    ensures { λ r. ⌜ Built (lettersOf (now (bytes .entry))) (complement (languageOf (now (bytes .entry)))) (now (s .exit)) r ⌝ }
 {
     let mut t = [0u64; 512];
     let mut u = [0u64; 512];
@@ -130,7 +142,7 @@ fn invert_record(bytes: &[u8], s: &mut Table) -> Machine
 // A well-formed record transposed, its initial and final states exchanged, its rows in s.
 fn turn_record(bytes: &[u8], s: &mut Table) -> Machine
     requires { ⌜ WellFormed (now bytes) × (length (now s) ≡ size) ⌝ }
-    ensures { λ r. ⌜ Built (lettersOf (now (bytes .entry))) (reversal (accepts (automatonOf (now (bytes .entry))))) (now (s .exit)) r ⌝ }
+    ensures { λ r. ⌜ Built (lettersOf (now (bytes .entry))) (reversal (languageOf (now (bytes .entry)))) (now (s .exit)) r ⌝ }
 {
     let mut t = [0u64; 512];
     let g = record::read(bytes, &mut t);
@@ -139,12 +151,7 @@ fn turn_record(bytes: &[u8], s: &mut Table) -> Machine
     let i = g.initial;
     let f = g.finals;
     transpose::transpose(&t, s, a, n);
-    Machine {
-        states: n,
-        letters: a,
-        initial: f,
-        finals: i,
-    }
+    machine(n, a, f, i)
 }
 
 // Writes the minimal record of the words that just one of two records accepts. Of every service below:
@@ -155,9 +162,9 @@ fn turn_record(bytes: &[u8], s: &mut Table) -> Machine
 pub fn sum(first: &[u8], second: &[u8], out: &mut [u8]) -> Written
     ensures answer { λ r. ⌜ r ≡ answerOf (sumOutcome (now (first .entry)) (now (second .entry)) (length (now (out .entry)))) ⌝ }
     ensures buffer { λ _. ⌜ now (out .exit) ≡ bufferOf (sumOutcome (now (first .entry)) (now (second .entry)) (length (now (out .entry)))) (now (out .entry)) ⌝ }
-    ensures words { λ r. ⌜ ((n : ℕ) → r ≡ Written.Done n → Same (lettersOf (now (first .entry))) (symmetricDifference (accepts (automatonOf (now (first .entry)))) (accepts (automatonOf (now (second .entry))))) (accepts (automatonOf (take n (now (out .exit)))))) ⌝ }
-    ensures form { λ r. ⌜ ((n : ℕ) → r ≡ Written.Done n → MinimalRecord (lettersOf (now (first .entry))) (symmetricDifference (accepts (automatonOf (now (first .entry)))) (accepts (automatonOf (now (second .entry))))) (take n (now (out .exit)))) ⌝ }
-    ensures limits { λ r. ⌜ Limits 11 maxStates (Operands (now (first .entry)) (now (second .entry))) (IsDimension (lettersOf (now (first .entry))) (symmetricDifference (accepts (automatonOf (now (first .entry)))) (accepts (automatonOf (now (second .entry)))))) r ⌝ }
+    ensures words { λ r. ⌜ ((n : ℕ) → r ≡ Written.Done n → Same (lettersOf (now (first .entry))) (symmetricDifference (languageOf (now (first .entry))) (languageOf (now (second .entry)))) (languageOf (take n (now (out .exit))))) ⌝ }
+    ensures form { λ r. ⌜ ((n : ℕ) → r ≡ Written.Done n → MinimalRecord (lettersOf (now (first .entry))) (symmetricDifference (languageOf (now (first .entry))) (languageOf (now (second .entry)))) (take n (now (out .exit)))) ⌝ }
+    ensures limits { λ r. ⌜ Limits (Written.Refused 11 0) maxStates (Operands (now (first .entry)) (now (second .entry))) (IsDimension (lettersOf (now (first .entry))) (symmetricDifference (languageOf (now (first .entry))) (languageOf (now (second .entry))))) r ⌝ }
 {
     let p = operands::check_pair(first, second);
     let Pair::Both = p else {
@@ -172,9 +179,9 @@ pub fn sum(first: &[u8], second: &[u8], out: &mut [u8]) -> Written
 pub fn complement(bytes: &[u8], out: &mut [u8]) -> Written
     ensures answer { λ r. ⌜ r ≡ answerOf (complementOutcome (now (bytes .entry)) (length (now (out .entry)))) ⌝ }
     ensures buffer { λ _. ⌜ now (out .exit) ≡ bufferOf (complementOutcome (now (bytes .entry)) (length (now (out .entry)))) (now (out .entry)) ⌝ }
-    ensures words { λ r. ⌜ ((n : ℕ) → r ≡ Written.Done n → Same (lettersOf (now (bytes .entry))) (complement (accepts (automatonOf (now (bytes .entry))))) (accepts (automatonOf (take n (now (out .exit)))))) ⌝ }
-    ensures form { λ r. ⌜ ((n : ℕ) → r ≡ Written.Done n → MinimalRecord (lettersOf (now (bytes .entry))) (complement (accepts (automatonOf (now (bytes .entry))))) (take n (now (out .exit)))) ⌝ }
-    ensures limits { λ r. ⌜ Limits 11 maxStates (WellFormed (now (bytes .entry))) (IsDimension (lettersOf (now (bytes .entry))) (complement (accepts (automatonOf (now (bytes .entry)))))) r ⌝ }
+    ensures words { λ r. ⌜ ((n : ℕ) → r ≡ Written.Done n → Same (lettersOf (now (bytes .entry))) (complement (languageOf (now (bytes .entry)))) (languageOf (take n (now (out .exit))))) ⌝ }
+    ensures form { λ r. ⌜ ((n : ℕ) → r ≡ Written.Done n → MinimalRecord (lettersOf (now (bytes .entry))) (complement (languageOf (now (bytes .entry)))) (take n (now (out .exit)))) ⌝ }
+    ensures limits { λ r. ⌜ Limits (Written.Refused 11 0) maxStates (WellFormed (now (bytes .entry))) (IsDimension (lettersOf (now (bytes .entry))) (complement (languageOf (now (bytes .entry))))) r ⌝ }
 {
     let c = record::check(bytes);
     let Checked::Good = c else {
@@ -189,9 +196,9 @@ pub fn complement(bytes: &[u8], out: &mut [u8]) -> Written
 pub fn mirror(bytes: &[u8], out: &mut [u8]) -> Written
     ensures answer { λ r. ⌜ r ≡ answerOf (mirrorOutcome (now (bytes .entry)) (length (now (out .entry)))) ⌝ }
     ensures buffer { λ _. ⌜ now (out .exit) ≡ bufferOf (mirrorOutcome (now (bytes .entry)) (length (now (out .entry)))) (now (out .entry)) ⌝ }
-    ensures words { λ r. ⌜ ((n : ℕ) → r ≡ Written.Done n → Same (lettersOf (now (bytes .entry))) (reversal (accepts (automatonOf (now (bytes .entry))))) (accepts (automatonOf (take n (now (out .exit)))))) ⌝ }
-    ensures form { λ r. ⌜ ((n : ℕ) → r ≡ Written.Done n → MinimalRecord (lettersOf (now (bytes .entry))) (reversal (accepts (automatonOf (now (bytes .entry))))) (take n (now (out .exit)))) ⌝ }
-    ensures limits { λ r. ⌜ Limits 11 maxStates (WellFormed (now (bytes .entry))) (IsDimension (lettersOf (now (bytes .entry))) (reversal (accepts (automatonOf (now (bytes .entry)))))) r ⌝ }
+    ensures words { λ r. ⌜ ((n : ℕ) → r ≡ Written.Done n → Same (lettersOf (now (bytes .entry))) (reversal (languageOf (now (bytes .entry)))) (languageOf (take n (now (out .exit))))) ⌝ }
+    ensures form { λ r. ⌜ ((n : ℕ) → r ≡ Written.Done n → MinimalRecord (lettersOf (now (bytes .entry))) (reversal (languageOf (now (bytes .entry)))) (take n (now (out .exit)))) ⌝ }
+    ensures limits { λ r. ⌜ Limits (Written.Refused 11 0) maxStates (WellFormed (now (bytes .entry))) (IsDimension (lettersOf (now (bytes .entry))) (reversal (languageOf (now (bytes .entry))))) r ⌝ }
 {
     let c = record::check(bytes);
     let Checked::Good = c else {
