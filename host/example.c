@@ -75,6 +75,21 @@ static int print_minimal(const uint8_t *record, size_t length)
     return 0;
 }
 
+/* A service that writes a record from a record. */
+typedef nxa_reply operation(const uint8_t *record, size_t record_len, uint8_t *out, size_t out_len);
+
+/* The dimension of a result is the number of its states. */
+static int print_result(const char *name, operation *call, const uint8_t *record, size_t length)
+{
+    uint8_t result[NXA_RECORD_MAX];
+    const nxa_reply reply = call(record, length, result, sizeof result);
+    if (refused(name, reply)) {
+        return 1;
+    }
+    printf("%s: dimension %lu, %lu bytes\n", name, shown(result[5]), shown(reply.length));
+    return 0;
+}
+
 /* A word given in digits; any other character becomes a letter that no record has. */
 static int print_test(const uint8_t *record, size_t length, const char *text)
 {
@@ -126,6 +141,8 @@ int main(int argc, char **argv)
     }
     printf("check: well formed, %lu bytes\n", shown(length));
     failed = print_minimal(record, length);
+    failed |= print_result("complement", nxa_complement, record, length);
+    failed |= print_result("mirror", nxa_mirror, record, length);
     failed |= print_test(record, length, "-");
     for (i = 2; i < argc; i++) {
         failed |= print_test(record, length, argv[i]);

@@ -47,6 +47,8 @@ extern "C" {
 #define NXA_STRAY_BIT 7      /* I, F or a row has a bit at n or above: offset of the first such field */
 #define NXA_UNLIKE_LETTERS 8 /* the two records have different a: 6; names record 2 */
 #define NXA_FOREIGN_LETTER 9 /* a letter of the tested word is a or more: its index in the word */
+#define NXA_PRODUCT 10       /* meet: product of the two dimensions over 64: the product; names no record */
+#define NXA_DIMENSION 11     /* dimension of the result over 32: the dimension; names no record */
 #define NXA_NO_ROOM 12       /* the lent buffer is too short: the bytes needed; names no record */
 #define NXA_NO_ENTRY 13      /* catalogue number over 5: the number; names no record */
 
@@ -124,6 +126,59 @@ nxa_reply nxa_minimal(const uint8_t *record, size_t record_len, uint8_t *out, si
  */
 nxa_reply nxa_compare(const uint8_t *first, size_t first_len, const uint8_t *second, size_t second_len, uint8_t *word,
                       size_t word_len);
+
+/* Writes the minimal record of the sum of two records over the same letters: the words that just one of them accepts.
+ *
+ * Reads:    both records.
+ * Writes:   the minimal record of the sum, length bytes.
+ * Granted:  length is 15 + 4*a*d for a sum of dimension d, value 0.
+ * Refused:  1 to 7, record 1; 1 to 7, record 2; 8, record 2, place 6; 11, record 0, place the dimension, 33 to 64; then 12, record 0,
+ *           place the bytes needed. A refusal of the first record is the whole answer. NXA_RECORD_MAX bytes are always enough.
+ *
+ *   uint8_t out[NXA_RECORD_MAX];
+ *   nxa_reply r = nxa_sum(key, key_count, answer, answer_count, out, sizeof out);
+ */
+nxa_reply nxa_sum(const uint8_t *first, size_t first_len, const uint8_t *second, size_t second_len, uint8_t *out, size_t out_len);
+
+/* Writes the minimal record of the meet of two records over the same letters: the words that both accept.
+ *
+ * Reads:    both records.
+ * Writes:   the minimal record of the meet, length bytes.
+ * Granted:  length is 15 + 4*a*d for a meet of dimension d, value 0.
+ * Refused:  1 to 7, record 1; 1 to 7, record 2; 8, record 2, place 6; 10, record 0, place the product of the dimensions of the two
+ *           languages, which is over 64, however few words they share; 11, record 0, place the dimension, 33 to 64; then 12,
+ *           record 0, place the bytes needed. A refusal of the first record is the whole answer.
+ *
+ *   uint8_t out[NXA_RECORD_MAX];
+ *   nxa_reply r = nxa_meet(first, first_count, second, second_count, out, sizeof out);
+ *   if (r.number == NXA_PRODUCT) printf("a product of %lu is too large\n", (unsigned long)r.place);
+ */
+nxa_reply nxa_meet(const uint8_t *first, size_t first_len, const uint8_t *second, size_t second_len, uint8_t *out, size_t out_len);
+
+/* Writes the minimal record of the complement of a record: the words over its letters that it does not accept.
+ *
+ * Reads:    the record.
+ * Writes:   the minimal record of the complement, length bytes.
+ * Granted:  length is 15 + 4*a*d for a complement of dimension d, value 0.
+ * Refused:  1 to 7, record 1; 11, record 0, place 33, the only dimension over 32 that there can be; then 12, record 0, place the bytes
+ *           needed.
+ *
+ *   uint8_t rest[NXA_RECORD_MAX];
+ *   nxa_reply r = nxa_complement(bytes, count, rest, sizeof rest);
+ */
+nxa_reply nxa_complement(const uint8_t *record, size_t record_len, uint8_t *out, size_t out_len);
+
+/* Writes the minimal record of the mirror of a record: its words reversed.
+ *
+ * Reads:    the record.
+ * Writes:   the minimal record of the mirror, length bytes.
+ * Granted:  length is 15 + 4*a*d, d being the record's own dimension, value 0.
+ * Refused:  1 to 7, record 1; then 12, record 0, place the bytes needed.
+ *
+ *   uint8_t backward[NXA_RECORD_MAX];
+ *   nxa_reply r = nxa_mirror(bytes, count, backward, sizeof backward);
+ */
+nxa_reply nxa_mirror(const uint8_t *record, size_t record_len, uint8_t *out, size_t out_len);
 
 /* Gives out a record of the catalogue. 0 no word; 1 all words; 2 the empty word only; 3 words ending in 1; 4 language X, in which every
  * maximal run of letter 0 has a length that does not leave 2 on division by 3; all these over two letters; 5 over one letter, the

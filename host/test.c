@@ -206,6 +206,7 @@ int main(void)
     samples();
     words();
     test_pairs();
+    test_operations();
     test_catalogue();
     printf("host: %d checks, %d failed\n", checks, failures);
     return failures != 0;

@@ -26,6 +26,8 @@ minimal: dimension 2, 31 bytes
   I 00000001  F 00000003
   letter 0: 00000002 00000003
   letter 1: 00000001 00000001
+complement: dimension 3, 39 bytes
+mirror: dimension 2, 31 bytes
 test: - is accepted
 test: 000 is accepted
 test: 001 is not accepted' "$(said "$record" 000 001)"

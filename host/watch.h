@@ -141,21 +141,29 @@ static inline record x(void)
     return record_of(2, 2, x_rows, 6);
 }
 
-/* Only the word of so many letters 0. */
-static inline record power(unsigned length)
+/* Only the word of so many times a letter, over so many letters. */
+static inline record power_of(unsigned letter, unsigned length, unsigned letters)
 {
-    uint32_t rows[2 + NXA_STATES_MAX];
+    uint32_t rows[2 + NXA_STATES_MAX * NXA_LETTERS_MAX] = {0};
+    uint32_t *own = rows + 2 + (size_t)letter * (length + 1);
     unsigned i;
     rows[0] = 1;
     rows[1] = (uint32_t)1 << length;
-    for (i = 0; i <= length; i++) {
-        rows[2 + i] = i == length ? 0 : (uint32_t)2 << i;
+    for (i = 0; i < length; i++) {
+        own[i] = (uint32_t)2 << i;
     }
-    return record_of(length + 1, 1, rows, 3 + (size_t)length);
+    return record_of(length + 1, letters, rows, 2 + (size_t)letters * (length + 1));
 }
 
-/* The tests of the services on two records, and of the catalogue. */
+/* Only the word of so many letters 0, over one letter. */
+static inline record power(unsigned length)
+{
+    return power_of(0, length, 1);
+}
+
+/* The tests of the services on two records, of the operations, and of the catalogue. */
 void test_pairs(void);
+void test_operations(void);
 void test_catalogue(void);
 
 #endif
