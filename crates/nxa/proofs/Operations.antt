@@ -1,23 +1,23 @@
 -- What a reply of an operation tells: the claims on the answer behind it, in terms of the reply.
-use mathlib.Core.Path.{_≡_, sym, ap, subst, _∙_}
+use mathlib.Core.Path.{_≡_, sym, ap, _∙_}
 use mathlib.Core.Bool.{Bool, true, false, cond}
 use mathlib.Core.List.{List}
 use Prim.Native.Nat.{ℕ, _*_, _≤_}
 use native.Mathlib.Omega.{arith}
 use lib.Dec.{ltb}
-use lib.ListN.{length, take}
-use Rattle.automata.specs.Automaton.{Automaton, accepts}
+use lib.ListN.{take}
+use Rattle.automata.specs.Automaton.{Automaton}
 use Rattle.automata.specs.Language.{Language, Same}
 use Rattle.automata.specs.Dimension.{IsDimension}
 use Rattle.automata.specs.MinimalOf.{minimalOf, dimensionOf}
-use Rattle.automata.specs.Operations.{sumOf, complementOf, mirrorOf, meetOf}
+use Rattle.automata.specs.Operations.{sumOf, meetOf}
 use Rattle.record.specs.Record.{maxStates, lettersOf, checkOf, automatonOf, languageOf, encode}
-use Rattle.record.specs.Outcome.{Outcome, refused, wrote, answerOf, bufferOf, fit}
+use Rattle.record.specs.Outcome.{Outcome, refused, answerOf, bufferOf}
 use Rattle.record.specs.declared.Written.{Written}
 use Rattle.record.specs.declared.Written.the-variants.{Done, Refused}
-use Rattle.operands.specs.Operands.{pairOf}
-use Rattle.operations.specs.Operations.{resultOf, sumOutcome, complementOutcome, mirrorOutcome, MinimalRecord, Limits}
-use Rattle.intersection.specs.Meet.{maxProduct, crossing, meetOutcome}
+use Rattle.operations.specs.Operations.{resultOf, sumOutcome, unaryOf, unaryOutcome, MinimalRecord, Limits}
+use Rattle.operations.specs.declared.Unary.{Unary}
+use Rattle.intersection.specs.Meet.{maxProduct, meetOutcome}
 use Rattle.nxa.specs.declared.Reply.{Reply}
 use Rattle.nxa.specs.Reply.{refusal, ofWritten}
 use Rattle.nxa.proofs.Granted.{check-numbered, Reasoned, fit-reasoned, checked-reasoned, pair-reasoned, written-granted}
@@ -37,13 +37,9 @@ pub sum-reasoned : (bs cs : List ℕ) (room : ℕ) → Reasoned (sumOutcome bs c
 unfolding sumOutcome
 sum-reasoned bs cs room = pair-reasoned bs cs _ (result-reasoned (lettersOf bs) (sumOf (automatonOf bs) (automatonOf cs)) room)
 
-pub complement-reasoned : (bs : List ℕ) (room : ℕ) → Reasoned (complementOutcome bs room)
-unfolding complementOutcome
-complement-reasoned bs room = checked-reasoned (checkOf bs) 1 _ (check-numbered bs) (result-reasoned (lettersOf bs) (complementOf (automatonOf bs)) room)
-
-pub mirror-reasoned : (bs : List ℕ) (room : ℕ) → Reasoned (mirrorOutcome bs room)
-unfolding mirrorOutcome
-mirror-reasoned bs room = checked-reasoned (checkOf bs) 1 _ (check-numbered bs) (result-reasoned (lettersOf bs) (mirrorOf (automatonOf bs)) room)
+pub unary-reasoned : (k : Unary) (bs : List ℕ) (room : ℕ) → Reasoned (unaryOutcome k bs room)
+unfolding unaryOutcome
+unary-reasoned k bs room = checked-reasoned (checkOf bs) 1 _ (check-numbered bs) (result-reasoned (lettersOf bs) (unaryOf k (automatonOf bs)) room)
 
 pub meet-reasoned : (bs cs : List ℕ) (room : ℕ) → Reasoned (meetOutcome bs cs room)
 unfolding meetOutcome

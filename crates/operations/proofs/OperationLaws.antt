@@ -6,9 +6,9 @@ use Prim.Native.Nat.{ℕ, _≤_}
 use native.Mathlib.Omega.{arith}
 use lib.Dec.{eqb}
 use lib.ListN.{length}
-use Rattle.automata.specs.Automaton.{Automaton, accepts}
-use Rattle.automata.specs.Language.{Language, Same, symmetricDifference, complement, reversal}
-use Rattle.automata.specs.Operations.{sumOf, complementOf, mirrorOf}
+use Rattle.automata.specs.Automaton.{accepts}
+use Rattle.automata.specs.Language.{Same, symmetricDifference}
+use Rattle.automata.specs.Operations.{sumOf}
 use Rattle.automata.proofs.Operations.{accepts-sum, accepts-complement, accepts-mirror}
 use Rattle.record.specs.Record.{maxLetters, lettersOf, checkOf, WellFormed, automatonOf}
 use Rattle.record.specs.Outcome.{Outcome, refused, wrote, checked}
@@ -20,7 +20,9 @@ use Rattle.operands.specs.Operands.{named, pairOf, afterPair}
 use Rattle.operands.specs.declared.Pair.{Pair}
 use Rattle.operands.specs.declared.Pair.the-variants.{Both, Refused as Bad}
 use Rattle.operands.proofs.PairLaws.{both-pass, both-passed}
-use Rattle.operations.specs.Operations.{resultOf, sumOutcome, complementOutcome, mirrorOutcome, Operands}
+use Rattle.operations.specs.Operations.{resultOf, sumOutcome, unaryLanguage, unaryOf, unaryOutcome, Operands}
+use Rattle.operations.specs.declared.Unary.{Unary}
+use Rattle.operations.specs.declared.Unary.the-variants.{Complement, Mirror}
 use Rattle.operations.proofs.ResultLaws.{Service, service-of}
 
 -- ---- what has passed
@@ -91,26 +93,20 @@ module _ (bs cs : List ℕ) where
 -- ---- complement and mirror
 
 module _ (bs : List ℕ) where
-  pub complement-refused : (room number place : ℕ) → checkOf bs ≡ Wrong number place → complementOutcome bs room ≡ refused number 1 place
-  unfolding complementOutcome
-  complement-refused room number place e = rw e
+  -- The automaton of an operation on one record accepts its words.
+  unary-words : (k : Unary) → Same (lettersOf bs) (unaryLanguage k (accepts (automatonOf bs))) (accepts (unaryOf k (automatonOf bs)))
+  unary-words Complement w ow = sym (accepts-complement (automatonOf bs) w)
+  unary-words Mirror w ow = sym (accepts-mirror (automatonOf bs) w)
 
-  pub mirror-refused : (room number place : ℕ) → checkOf bs ≡ Wrong number place → mirrorOutcome bs room ≡ refused number 1 place
-  unfolding mirrorOutcome
-  mirror-refused room number place e = rw e
+  module _ (k : Unary) where
+    pub unary-refused : (room number place : ℕ) → checkOf bs ≡ Wrong number place → unaryOutcome k bs room ≡ refused number 1 place
+    unfolding unaryOutcome
+    unary-refused room number place e = rw e
 
-  -- A service on one record.
-  single : (L : Language) (A : Automaton) → Same (lettersOf bs) L (accepts A) → (buf : List ℕ) → Service (lettersOf bs) L (WellFormed bs) buf (checked (checkOf bs) 1 (resultOf (lettersOf bs) A (length buf)))
-  single L A same buf = service-of (lettersOf bs) L A same (WellFormed bs) (sizes bs) buf (checked (checkOf bs) 1 result) (λ good. ap (λ c. checked c 1 result) good)
-      (λ out e. checked-wrote (checkOf bs) 1 result out e .0) (λ k e. checked-refused (checkOf bs) result 11 k e)
-    where
-      result : Outcome
-      result = resultOf (lettersOf bs) A (length buf)
-
-  pub complement-service : (buf : List ℕ) → Service (lettersOf bs) (complement (accepts (automatonOf bs))) (WellFormed bs) buf (complementOutcome bs (length buf))
-  unfolding complementOutcome
-  complement-service = single (complement (accepts (automatonOf bs))) (complementOf (automatonOf bs)) (λ w ow. sym (accepts-complement (automatonOf bs) w))
-
-  pub mirror-service : (buf : List ℕ) → Service (lettersOf bs) (reversal (accepts (automatonOf bs))) (WellFormed bs) buf (mirrorOutcome bs (length buf))
-  unfolding mirrorOutcome
-  mirror-service = single (reversal (accepts (automatonOf bs))) (mirrorOf (automatonOf bs)) (λ w ow. sym (accepts-mirror (automatonOf bs) w))
+    pub unary-service : (buf : List ℕ) → Service (lettersOf bs) (unaryLanguage k (accepts (automatonOf bs))) (WellFormed bs) buf (unaryOutcome k bs (length buf))
+    unfolding unaryOutcome
+    unary-service buf = service-of (lettersOf bs) (unaryLanguage k (accepts (automatonOf bs))) (unaryOf k (automatonOf bs)) (unary-words k) (WellFormed bs) (sizes bs) buf (checked (checkOf bs) 1 result)
+        (λ good. ap (λ c. checked c 1 result) good) (λ out e. checked-wrote (checkOf bs) 1 result out e .0) (λ k e. checked-refused (checkOf bs) result 11 k e)
+      where
+        result : Outcome
+        result = resultOf (lettersOf bs) (unaryOf k (automatonOf bs)) (length buf)

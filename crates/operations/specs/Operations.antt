@@ -2,6 +2,7 @@
 --   limited d rest              row 11: a dimension over 32 is refused, else the rest decides
 --   resultOf a A room           the minimal record of A's language over a letters, in a buffer of so many bytes: rows 11 and 12
 --   sumOutcome bs cs room       what each service does with a buffer of so many bytes
+--   unaryOutcome k bs room      the operation k on one record: complement or mirror
 --   complementOutcome bs room
 --   mirrorOutcome bs room
 --   MinimalRecord a L out       out is the minimal record of the language L over a letters
@@ -12,7 +13,7 @@ use mathlib.Core.List.{List}
 use Prim.Native.Nat.{ℕ, _<_, _≤_}
 use lib.Dec.{ltb}
 use Rattle.automata.specs.Automaton.{Automaton, accepts}
-use Rattle.automata.specs.Language.{Language, Same}
+use Rattle.automata.specs.Language.{Language, Same, complement, reversal}
 use Rattle.automata.specs.Dimension.{IsDimension}
 use Rattle.automata.specs.MinimalOf.{minimalOf, dimensionOf}
 use Rattle.automata.specs.Operations.{sumOf, complementOf, mirrorOf}
@@ -21,6 +22,8 @@ use Rattle.record.specs.Outcome.{Outcome, refused, checked, fit}
 use Rattle.record.specs.declared.Written.{Written}
 use Rattle.record.specs.declared.Written.the-variants.{Done, Refused}
 use Rattle.operands.specs.Operands.{pairOf, afterPair}
+use Rattle.operations.specs.declared.Unary.{Unary}
+use Rattle.operations.specs.declared.Unary.the-variants.{Complement, Mirror}
 use Rattle.operands.specs.declared.Pair.{Pair}
 use Rattle.operands.specs.declared.Pair.the-variants.{Both, Refused as Bad}
 
@@ -35,11 +38,23 @@ resultOf a A room = limited (dimensionOf a A) (fit room (encode a (minimalOf a A
 unfoldable pub sumOutcome : List ℕ → List ℕ → ℕ → Outcome
 sumOutcome bs cs room = afterPair (pairOf bs cs) (resultOf (lettersOf bs) (sumOf (automatonOf bs) (automatonOf cs)) room)
 
-unfoldable pub complementOutcome : List ℕ → ℕ → Outcome
-complementOutcome bs room = checked (checkOf bs) 1 (resultOf (lettersOf bs) (complementOf (automatonOf bs)) room)
+-- The words of an operation on one record, and an automaton for them.
+abbrev pub unaryLanguage : Unary → Language → Language
+unaryLanguage Complement L = complement L
+unaryLanguage Mirror L = reversal L
 
-unfoldable pub mirrorOutcome : List ℕ → ℕ → Outcome
-mirrorOutcome bs room = checked (checkOf bs) 1 (resultOf (lettersOf bs) (mirrorOf (automatonOf bs)) room)
+abbrev pub unaryOf : Unary → Automaton → Automaton
+unaryOf Complement A = complementOf A
+unaryOf Mirror A = mirrorOf A
+
+unfoldable pub unaryOutcome : Unary → List ℕ → ℕ → Outcome
+unaryOutcome k bs room = checked (checkOf bs) 1 (resultOf (lettersOf bs) (unaryOf k (automatonOf bs)) room)
+
+abbrev pub complementOutcome : List ℕ → ℕ → Outcome
+complementOutcome = unaryOutcome Complement
+
+abbrev pub mirrorOutcome : List ℕ → ℕ → Outcome
+mirrorOutcome = unaryOutcome Mirror
 
 -- The checks of two records as an answer.
 abbrev pub refusedAs : Pair → Written

@@ -11,7 +11,7 @@ ghost use Rattle.rows.specs.Machine.{automatonIn, Valid};
 ghost use Rattle.comparison.specs.Sum.{Filled};
 ghost use Rattle.record.specs.Record.{maxStates, lettersOf, WellFormed, languageOf};
 ghost use Rattle.record.specs.Outcome.{answerOf, bufferOf};
-ghost use Rattle.operations.specs.Operations.{resultOf, refusedAs, sumOutcome, complementOutcome, mirrorOutcome, MinimalRecord, Operands, Limits};
+ghost use Rattle.operations.specs.Operations.{resultOf, refusedAs, sumOutcome, unaryLanguage, unaryOutcome, complementOutcome, mirrorOutcome, MinimalRecord, Operands, Limits};
 ghost use Rattle.operations.specs.Inner.{Built};
 use operands::Pair;
 use record::Checked;
@@ -21,6 +21,12 @@ use rows::Row;
 use rows::Table;
 
 const MAX_STATES: usize = 32;
+
+// The operations on one record.
+pub enum Unary {
+    Complement,
+    Mirror,
+}
 
 // The minimal record of the automaton of t and m, or refusal 11 or 12.
 pub fn finish(t: &Table, m: Machine, out: &mut [u8]) -> Written
@@ -175,6 +181,34 @@ pub fn sum(first: &[u8], second: &[u8], out: &mut [u8]) -> Written
     finish(&s, m, out)
 }
 
+// The automaton of an operation on a well-formed record, its rows in s.
+fn build(k: Unary, bytes: &[u8], s: &mut Table) -> Machine
+    requires { ⌜ WellFormed (now bytes) × (length (now s) ≡ size) ⌝ }
+    ensures { λ r. ⌜ Built (lettersOf (now (bytes .entry))) (unaryLanguage k (languageOf (now (bytes .entry)))) (now (s .exit)) r ⌝ }
+{
+    match k {
+        Unary::Complement => invert_record(bytes, s),
+        Unary::Mirror => turn_record(bytes, s),
+    }
+}
+
+// An operation on one record: complement and mirror have the same check, limit and writing.
+fn operate(k: Unary, bytes: &[u8], out: &mut [u8]) -> Written
+    ensures answer { λ r. ⌜ r ≡ answerOf (unaryOutcome k (now (bytes .entry)) (length (now (out .entry)))) ⌝ }
+    ensures buffer { λ _. ⌜ now (out .exit) ≡ bufferOf (unaryOutcome k (now (bytes .entry)) (length (now (out .entry)))) (now (out .entry)) ⌝ }
+    ensures words { λ r. ⌜ ((n : ℕ) → r ≡ Written.Done n → Same (lettersOf (now (bytes .entry))) (unaryLanguage k (languageOf (now (bytes .entry)))) (languageOf (take n (now (out .exit))))) ⌝ }
+    ensures form { λ r. ⌜ ((n : ℕ) → r ≡ Written.Done n → MinimalRecord (lettersOf (now (bytes .entry))) (unaryLanguage k (languageOf (now (bytes .entry)))) (take n (now (out .exit)))) ⌝ }
+    ensures limits { λ r. ⌜ Limits (Written.Refused 11 0) maxStates (WellFormed (now (bytes .entry))) (IsDimension (lettersOf (now (bytes .entry))) (unaryLanguage k (languageOf (now (bytes .entry))))) r ⌝ }
+{
+    let c = record::check(bytes);
+    let Checked::Good = c else {
+        return record::refused(c, 1);
+    };
+    let mut s = [0u64; 512];
+    let m = build(k, bytes, &mut s);
+    finish(&s, m, out)
+}
+
 // Writes the minimal record of the words over the record's letters that it does not accept. `words`, `form`, `limits`: as for `sum`.
 pub fn complement(bytes: &[u8], out: &mut [u8]) -> Written
     ensures answer { λ r. ⌜ r ≡ answerOf (complementOutcome (now (bytes .entry)) (length (now (out .entry)))) ⌝ }
@@ -183,13 +217,7 @@ pub fn complement(bytes: &[u8], out: &mut [u8]) -> Written
     ensures form { λ r. ⌜ ((n : ℕ) → r ≡ Written.Done n → MinimalRecord (lettersOf (now (bytes .entry))) (complement (languageOf (now (bytes .entry)))) (take n (now (out .exit)))) ⌝ }
     ensures limits { λ r. ⌜ Limits (Written.Refused 11 0) maxStates (WellFormed (now (bytes .entry))) (IsDimension (lettersOf (now (bytes .entry))) (complement (languageOf (now (bytes .entry))))) r ⌝ }
 {
-    let c = record::check(bytes);
-    let Checked::Good = c else {
-        return record::refused(c, 1);
-    };
-    let mut s = [0u64; 512];
-    let m = invert_record(bytes, &mut s);
-    finish(&s, m, out)
+    operate(Unary::Complement, bytes, out)
 }
 
 // Writes the minimal record of the reversed words. `words`, `form`, `limits`: as for `sum`.
@@ -200,11 +228,5 @@ pub fn mirror(bytes: &[u8], out: &mut [u8]) -> Written
     ensures form { λ r. ⌜ ((n : ℕ) → r ≡ Written.Done n → MinimalRecord (lettersOf (now (bytes .entry))) (reversal (languageOf (now (bytes .entry)))) (take n (now (out .exit)))) ⌝ }
     ensures limits { λ r. ⌜ Limits (Written.Refused 11 0) maxStates (WellFormed (now (bytes .entry))) (IsDimension (lettersOf (now (bytes .entry))) (reversal (languageOf (now (bytes .entry))))) r ⌝ }
 {
-    let c = record::check(bytes);
-    let Checked::Good = c else {
-        return record::refused(c, 1);
-    };
-    let mut s = [0u64; 512];
-    let m = turn_record(bytes, &mut s);
-    finish(&s, m, out)
+    operate(Unary::Mirror, bytes, out)
 }

@@ -4,7 +4,8 @@ use lib.ListN.{length}
 use Rattle.automata.specs.Language.{complement}
 use Rattle.record.specs.Record.{lettersOf, languageOf, WellFormed}
 use Rattle.operations.specs.Operations.{complementOutcome}
-use Rattle.nxa.proofs.Operations.{complement-reasoned, operation-told}
+use Rattle.operations.specs.declared.Unary.the-variants.{Complement}
+use Rattle.nxa.proofs.Operations.{unary-reasoned, operation-told}
 use borrow.Author.Needs.{needs}
 use Rattle.nxa.proofs.nxa_complement.Statement.{statement}
 use Rattle.nxa.proofs.nxa_complement.Tie as tie
@@ -24,7 +25,7 @@ returns c =
     let bs = now (a .«record») in
     let buf = now (a .out) in
     let w = c .before .before .before .complement in
-    operation-told (lettersOf bs) (complement (languageOf bs)) (WellFormed bs) (complementOutcome bs (length buf)) buf (w .last .1 .0) (w .result) (c .of-written .result) (complement-reasoned bs (length buf)) (c .of-written .ensures) (w .ensures)
+    operation-told (lettersOf bs) (complement (languageOf bs)) (WellFormed bs) (complementOutcome bs (length buf)) buf (w .last .1 .0) (w .result) (c .of-written .result) (unary-reasoned Complement bs (length buf)) (c .of-written .ensures) (w .ensures)
 
 pub nxa-complement-spec : {M : Type 1} → statement M
 nxa-complement-spec = tie.close (tie.spec complement-requires of-written-requires same-length returns)

@@ -4,7 +4,8 @@ use lib.ListN.{length}
 use Rattle.automata.specs.Language.{reversal}
 use Rattle.record.specs.Record.{lettersOf, languageOf, WellFormed}
 use Rattle.operations.specs.Operations.{mirrorOutcome}
-use Rattle.nxa.proofs.Operations.{mirror-reasoned, operation-told}
+use Rattle.operations.specs.declared.Unary.the-variants.{Mirror}
+use Rattle.nxa.proofs.Operations.{unary-reasoned, operation-told}
 use borrow.Author.Needs.{needs}
 use Rattle.nxa.proofs.nxa_mirror.Statement.{statement}
 use Rattle.nxa.proofs.nxa_mirror.Tie as tie
@@ -24,7 +25,7 @@ returns c =
     let bs = now (a .«record») in
     let buf = now (a .out) in
     let w = c .before .before .before .mirror in
-    operation-told (lettersOf bs) (reversal (languageOf bs)) (WellFormed bs) (mirrorOutcome bs (length buf)) buf (w .last .1 .0) (w .result) (c .of-written .result) (mirror-reasoned bs (length buf)) (c .of-written .ensures) (w .ensures)
+    operation-told (lettersOf bs) (reversal (languageOf bs)) (WellFormed bs) (mirrorOutcome bs (length buf)) buf (w .last .1 .0) (w .result) (c .of-written .result) (unary-reasoned Mirror bs (length buf)) (c .of-written .ensures) (w .ensures)
 
 pub nxa-mirror-spec : {M : Type 1} → statement M
 nxa-mirror-spec = tie.close (tie.spec mirror-requires of-written-requires same-length returns)
