@@ -2,12 +2,22 @@
 use mathlib.Core.Path.{_≡_, refl, sym, ap₂, _∙_}
 use mathlib.Core.Logic.{_⊎_, inl, inr}
 use mathlib.Core.List.{List, [], _∷_, _++_, reverse, reverse-cons}
-use Prim.Native.Nat.{ℕ, zero, suc, _<_}
+use Prim.Native.Nat.{ℕ, zero, suc, _≤_, _<_}
 use native.Mathlib.Nat.{not-suc-le-zero}
 use native.Mathlib.Decide.{ℕ-discrete, decLt}
 use native.Mathlib.Omega.{arith}
 use lib.ListN.{length, getD, take, drop, length-append, take-append-drop}
 use Rattle.automata.specs.Word.{Over, Lex, Shortlex}
+
+pub over-at : (a : ℕ) (w : List ℕ) → Over a w → (i : ℕ) → i < length w → getD w i 0 < a
+over-at a [] o i h = absurd (omega arith)
+over-at a (l ∷ w) o zero h = o .0
+over-at a (l ∷ w) o (suc i) h = over-at a w (o .1) i (omega arith)
+
+-- A word over some letters is over more.
+pub over-more : {a b : ℕ} → a ≤ b → (w : List ℕ) → Over a w → Over b w
+over-more h [] o = tt
+over-more h (l ∷ w) o = (omega (arith, o .0), over-more h w (o .1))
 
 pub over-append : (a : ℕ) (u v : List ℕ) → Over a u → Over a v → Over a (u ++ v)
 over-append a [] v p q = q

@@ -156,6 +156,16 @@ stray-good w n bs (suc k) p e (suc j) h =
     let s : p + w * suc j ≡ p + w + w * j = rw mul-suc (omega arith) in
     rw s (stray-good w n bs k (p + w) (r .1) j (omega arith))
 
+-- Fields that do not pass are refused by row 7.
+pub stray-seven : (w n : ℕ) (bs : List ℕ) (k p code place : ℕ) → strayFrom w n bs k p ≡ Refused code place → code ≡ 7
+unfolding strayFrom
+stray-seven w n bs zero p code place e = let z : _≡_ {A = ℕ} 0 1 = cc in absurd (omega arith)
+stray-seven w n bs (suc k) p code place e = go (leb (2 ^ n) (number w bs p)) e (stray-seven w n bs k (p + w) code place)
+  where
+    go : (b : Bool) → row b 7 p (strayFrom w n bs k (p + w)) ≡ Refused code place → (strayFrom w n bs k (p + w) ≡ Refused code place → code ≡ 7) → code ≡ 7
+    go true r rest = cc
+    go false r rest = rest r
+
 good-stray : (w n : ℕ) (bs : List ℕ) (k p : ℕ) → ((j : ℕ) → j < k → number w bs (p + w * j) < 2 ^ n) → strayFrom w n bs k p ≡ Good
 unfolding strayFrom
 good-stray w n bs zero p h = refl

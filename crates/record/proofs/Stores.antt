@@ -13,11 +13,12 @@ use Rattle.automata.proofs.Fields.{join-length, rows-length}
 use Rattle.record.specs.Bytes.{bytesOf, allBytes}
 use Rattle.record.proofs.Bytes.{length-allBytes, allBytes-append, allBytes-one}
 
-sets-append : (xs ys l : List ℕ) (i : ℕ) → sets l i (xs ++ ys) ≡ sets (sets l i xs) (i + length xs) ys
+-- Of two runs the second is stored where the first ends.
+pub sets-append : (xs ys l : List ℕ) (i : ℕ) → sets l i (xs ++ ys) ≡ sets (sets l i xs) (i + length xs) ys
 sets-append [] ys l i = rw add-zero
 sets-append (x ∷ xs) ys l i = rw (sets-append xs ys (set l i x) (suc i), suc-add, add-suc)
 
-sets-then : (xs ys l : List ℕ) (i j : ℕ) → i + length xs ≡ j → sets l i (xs ++ ys) ≡ sets (sets l i xs) j ys
+pub sets-then : (xs ys l : List ℕ) (i j : ℕ) → i + length xs ≡ j → sets l i (xs ++ ys) ≡ sets (sets l i xs) j ys
 sets-then xs ys l i j e = sets-append xs ys l i ∙ rw e
 
 -- The bytes of more numbers after those of some.

@@ -62,11 +62,6 @@ unfolding foreignFrom
 foreign-over a [] i g = tt
 foreign-over a (l ∷ w) i g = over-rest a l i w (leb a l) refl g (foreign-over a w (i + 1))
 
-pub over-at : (a : ℕ) (w : List ℕ) → Over a w → (i : ℕ) → i < length w → getD w i 0 < a
-over-at a [] o i h = absurd (omega arith)
-over-at a (l ∷ w) o zero h = o .0
-over-at a (l ∷ w) o (suc i) h = over-at a w (o .1) i (omega arith)
-
 -- ---- the row reached
 
 module _ (t : List ℕ) (m : Machine) (valid : Valid t m) where

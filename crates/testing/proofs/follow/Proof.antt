@@ -7,10 +7,11 @@ use native.Mathlib.Numerals.{add-one}
 use lib.ListN.{length, take}
 use lib.Seq.{take-suc, take-all}
 use Rattle.automata.specs.Word.{Over}
+use Rattle.automata.proofs.Shortlex.{over-at}
 use Rattle.rows.specs.declared.Machine.{Machine}
 use Rattle.rows.specs.Machine.{Valid}
 use Rattle.testing.specs.Testing.{Reached}
-use Rattle.testing.proofs.Testing.{over-at, reached-start, reached-letter}
+use Rattle.testing.proofs.Testing.{reached-start, reached-letter}
 use Rattle.testing.proofs.follow.Statement.{statement}
 use Rattle.testing.proofs.follow.Tie as tie
 
