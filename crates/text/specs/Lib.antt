@@ -1,0 +1,2 @@
+-- The definitions that the contracts of the writers cite.
+pub mod Text
