@@ -1,0 +1,2 @@
+-- The definitions that the contracts of the reader cite.
+pub mod Script

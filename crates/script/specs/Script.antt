@@ -1,0 +1,38 @@
+-- What stands at a position of a script: records end to end (01: Marking a script).
+--   partAt s at             a whole record and where the next one starts, a refusal 1 to 6, or the end
+--   afterPart p at          where a reader stands afterwards: past a record, else where it was
+--   bytesAt s start next    the bytes of a record
+use mathlib.Core.Bool.{cond}
+use mathlib.Core.List.{List}
+use Prim.Native.Nat.{ℕ, _+_, _-_}
+use lib.Dec.{ltb, leb}
+use lib.ListN.{length, take, drop}
+use Rattle.record.specs.Record.{frontOf, needOf}
+use Rattle.record.specs.declared.Checked.{Checked}
+use Rattle.record.specs.declared.Checked.the-variants.{Good, Refused as Bad}
+use Rattle.script.specs.declared.Part.{Part}
+use Rattle.script.specs.declared.Part.the-variants.{Whole, Refused, End}
+
+-- A refusal is the whole answer; else the rest decides.
+abbrev pub passed : Checked → Part → Part
+passed Good rest = rest
+passed (Bad number place) rest = Refused number place
+
+-- Rows 1 to 5 on the bytes that are left, then row 6: fewer are left than the record needs. The first of them stands at `at`.
+unfoldable pub partOf : List ℕ → ℕ → Part
+partOf left at =
+    passed (frontOf left)
+    (cond (ltb (length left) (needOf left)) (Refused 6 (needOf left))
+    (Whole at (at + needOf left)))
+
+-- With 0 bytes left the script ends.
+unfoldable pub partAt : List ℕ → ℕ → Part
+partAt s at = cond (leb (length s) at) End (partOf (drop at s) at)
+
+abbrev pub afterPart : Part → ℕ → ℕ
+afterPart (Whole start next) at = next
+afterPart (Refused number place) at = at
+afterPart End at = at
+
+abbrev pub bytesAt : List ℕ → ℕ → ℕ → List ℕ
+bytesAt s start next = take (next - start) (drop start s)
