@@ -1,13 +1,10 @@
 -- The service case by case, and what holds of the bytes that it wrote: they are the entry's record.
 use mathlib.Core.Path.{_≡_, sym, subst, _∙_}
-use mathlib.Core.Bool.{Bool, true, false, cond}
 use mathlib.Core.List.{List}
 use Prim.Native.Nat.{ℕ, _≤_, _<_}
 use native.Mathlib.Decide.{decLe}
 use native.Mathlib.Omega.{arith}
-use lib.Dec.{ltb}
-use lib.ListN.{length, take, drop}
-use lib.Seq.{take-at}
+use lib.ListN.{take}
 use borrow.Author.Tests.{lt-ltb, le-ltb}
 use Rattle.automata.specs.Automaton.{accepts}
 use Rattle.automata.specs.Language.{Same}
@@ -16,7 +13,8 @@ use Rattle.automata.specs.MinimalOf.{minimalOf}
 use Rattle.record.specs.declared.Written.{Written}
 use Rattle.record.specs.declared.Written.the-variants.{Done, Refused}
 use Rattle.record.specs.Record.{statesOf, WellFormed, automatonOf, encode}
-use Rattle.record.specs.Outcome.{refused, wrote, fit, answerOf, bufferOf}
+use Rattle.record.specs.Outcome.{refused, fit, answerOf, bufferOf}
+use Rattle.record.proofs.Outcome.{fit-bytes}
 use Rattle.catalogue.specs.Words.{wordsOf}
 use Rattle.catalogue.specs.Entries.{last, lettersAt, recordOf, catalogueOf, Given}
 use Rattle.catalogue.proofs.Records.{record-formed, record-words, record-dimension, record-minimal}
@@ -36,14 +34,6 @@ module _ (number room : ℕ) where
 
 never-both : {n number which place : ℕ} → Refused number which place ≡ Done n → ⊥
 never-both e = let z : _≡_ {A = ℕ} 0 1 = cc in omega arith
-
-fit-bytes : (room n : ℕ) (bs buf : List ℕ) → answerOf (fit room bs) ≡ Done n → take n (bufferOf (fit room bs) buf) ≡ bs
-unfolding fit
-fit-bytes room n bs buf e = go (ltb room (length bs)) e
-  where
-    go : (b : Bool) → answerOf (cond b (refused 12 0 (length bs)) (wrote bs)) ≡ Done n → take n (bufferOf (cond b (refused 12 0 (length bs)) (wrote bs)) buf) ≡ bs
-    go true e = absurd (never-both e)
-    go false e = take-at bs (drop (length bs) buf) n (cc)
 
 given-bytes : (number room n : ℕ) (buf : List ℕ) → answerOf (catalogueOf number room) ≡ Done n
     → (number ≤ last) × (take n (bufferOf (catalogueOf number room) buf) ≡ recordOf number)

@@ -98,7 +98,7 @@ module _ (bs cs buf : List ℕ) where
   -- ---- a word that was written
 
   -- The side that the answer names accepts the word.
-  accepted : (w : List ℕ) → accepts (automatonOf bs) w ⊕ accepts (automatonOf cs) w ≡ true → accepts (automatonOf (acceptorOf (sideOf (accepts (automatonOf bs) w)) bs cs)) w ≡ true
+  pub accepted : (w : List ℕ) → accepts (automatonOf bs) w ⊕ accepts (automatonOf cs) w ≡ true → accepts (automatonOf (acceptorOf (sideOf (accepts (automatonOf bs) w)) bs cs)) w ≡ true
   accepted w e = go (accepts (automatonOf bs) w) refl e
     where
       go : (b : Bool) → accepts (automatonOf bs) w ≡ b → b ⊕ accepts (automatonOf cs) w ≡ true → accepts (automatonOf (acceptorOf (sideOf b) bs cs)) w ≡ true

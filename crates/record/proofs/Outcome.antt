@@ -11,7 +11,8 @@ use lib.Seq.{take-append-le, take-all}
 use Rattle.record.specs.Record.{checkOf, WellFormed}
 use Rattle.record.specs.declared.Checked.{Checked}
 use Rattle.record.specs.declared.Checked.the-variants.{Good, Refused}
-use Rattle.record.specs.Outcome.{Outcome, refused, wrote, bufferOf, checked, fit, rewriteOf}
+use Rattle.record.specs.declared.Written.the-variants.{Done}
+use Rattle.record.specs.Outcome.{Outcome, refused, wrote, answerOf, bufferOf, checked, fit, rewriteOf}
 
 module _ (room : ℕ) {l : ℕ} (out : List ℕ) (e : length out ≡ l) where
   pub fit-short : room < l → fit room out ≡ refused 12 0 l
@@ -54,3 +55,12 @@ wrote-take out buf = take-append-le (length out) out (drop (length out) buf) (om
 
 pub outcome-take : (o : Outcome) (out buf : List ℕ) (n : ℕ) → o ≡ wrote out → n ≡ length out → take n (bufferOf o buf) ≡ out
 outcome-take o out buf n h e = ap₂ (λ k x. take k (bufferOf x buf)) e h ∙ wrote-take out buf
+
+-- What a granted call wrote stands at the buffer's start.
+pub fit-bytes : (room n : ℕ) (bs buf : List ℕ) → answerOf (fit room bs) ≡ Done n → take n (bufferOf (fit room bs) buf) ≡ bs
+unfolding fit
+fit-bytes room n bs buf e = go (ltb room (length bs)) e
+  where
+    go : (b : Bool) → answerOf (cond b (refused 12 0 (length bs)) (wrote bs)) ≡ Done n → take n (bufferOf (cond b (refused 12 0 (length bs)) (wrote bs)) buf) ≡ bs
+    go true e = let z : _≡_ {A = ℕ} 0 1 = cc in absurd (omega arith)
+    go false e = outcome-take (wrote bs) bs buf n refl (cc)

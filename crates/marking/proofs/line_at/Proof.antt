@@ -1,0 +1,40 @@
+-- `line_at`: the line that was built, given out.
+use mathlib.Core.Path.{ap, _∙_}
+use denote.Ref.{now}
+use lib.ListN.{length}
+use Rattle.record.specs.Outcome.{answerOf, bufferOf, fit}
+use borrow.Author.Needs.{needs}
+use Rattle.marking.proofs.line_at.Statement.{statement}
+use Rattle.marking.proofs.line_at.Tie as tie
+
+slice-aggregate-part-line : tie.Need-slice-aggregate-part-line
+slice-aggregate-part-line c = search needs
+
+part-line-requires : tie.Need-part-line-requires
+part-line-requires c κs = search needs
+
+slice-aggregate-give : tie.Need-slice-aggregate-give
+slice-aggregate-give c = search needs
+
+give-requires : tie.Need-give-requires
+give-requires c κs = search needs
+
+same-length : tie.Need-same-length
+same-length c = search needs
+
+returns : tie.Need-returns
+returns c =
+    let a = c .before .before .before .before .before .before .before .before .before .before .args in
+    let e = ap (fit (length (now (a .out)))) (c .before .before .before .before .before .before .part-line .ensures .bytes) in
+    (c .before .before .give .ensures .0 ∙ ap answerOf e, c .before .before .give .ensures .1 ∙ ap (λ o. bufferOf o (now (a .out))) e)
+
+pub line-at-spec : {M : Type 1} → statement M
+line-at-spec =
+    tie.close
+    (tie.spec
+    slice-aggregate-part-line
+    part-line-requires
+    slice-aggregate-give
+    give-requires
+    same-length
+    returns)

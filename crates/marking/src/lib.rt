@@ -1,0 +1,254 @@
+// Marking a script: the line of each of its records, and the marking service.
+ghost use mathlib.Core.Path.{_≡_};
+ghost use Prim.Native.Nat.{ℕ, _+_, _≤_, _<_};
+ghost use lib.ListN.{length, take};
+ghost use lib.Seq.{sets};
+ghost use Rattle.automata.specs.Word.{Over};
+ghost use Rattle.record.specs.Record.{WellFormed};
+ghost use Rattle.record.specs.Outcome.{fit, answerOf, bufferOf};
+ghost use Rattle.script.specs.Script.{partAt, afterPart};
+ghost use Rattle.marking.specs.Lines.{opening, refusedLine, dimLine, differLine, acceptedBy, longest, Begun, Begins};
+ghost use Rattle.marking.specs.Marking.{maxScript, dimensionIn, keyRecordLine, answerLine, keyPartLine, answerPartLine, lineAt, pastOf, placeOf, markOutcome};
+ghost use Rattle.marking.specs.Told.{Told};
+use compare::Compared;
+use compare::Side;
+use record::Checked;
+use record::Written;
+use script::Part;
+
+const MAX_SCRIPT: usize = 65536;
+
+// The bytes of a line that is built: no line has more.
+const LONGEST: usize = 160;
+
+// The first n bytes of a line into a lent buffer, or refusal 12.
+fn give(line: &[u8], n: usize, out: &mut [u8]) -> Written
+    requires { ⌜ n ≤ length (now line) ⌝ }
+    ensures answer { λ r. ⌜ r ≡ answerOf (fit (length (now (out .entry))) (take n (now (line .entry)))) ⌝ }
+    ensures buffer { λ _. ⌜ now (out .exit) ≡ bufferOf (fit (length (now (out .entry))) (take n (now (line .entry)))) (now (out .entry)) ⌝ }
+{
+    if out.len() < n {
+        return Written::Refused {
+            number: 12,
+            record: 0,
+            place: n,
+        };
+    }
+    text::put(out, 0, &line[..n]);
+    Written::Done { length: n }
+}
+
+// How the line of a record starts: its index, words, and a number.
+fn begin(line: &mut [u8], index: usize, words: &[u8], n: usize) -> usize
+    requires { ⌜ 40 + length (now words) ≤ length (now line) ⌝ }
+    ensures { λ r. ⌜ Begun (now (line .entry)) (now (line .exit)) r (opening index (now (words .entry)) n) ⌝ }
+{
+    let a = text::put_number(line, 0, index);
+    let b = text::put(line, a, words);
+    text::put_number(line, b, n)
+}
+
+// A refusal's line.
+fn refused_line(line: &mut [u8], index: usize, number: usize, place: usize) -> usize
+    requires { ⌜ longest ≤ length (now line) ⌝ }
+    ensures { λ r. ⌜ Begins (now (line .exit)) r (refusedLine index number place) ⌝ }
+{
+    let a = begin(line, index, b" refused ", number);
+    let b = text::put(line, a, b" ");
+    let c = text::put_number(line, b, place);
+    text::put(line, c, b"\n")
+}
+
+// A line that says no more than a dimension.
+fn dim_line(line: &mut [u8], index: usize, words: &[u8], d: usize) -> usize
+    requires { ⌜ 41 + length (now words) ≤ length (now line) ⌝ }
+    ensures { λ r. ⌜ Begins (now (line .exit)) r (dimLine index (now (words .entry)) d) ⌝ }
+{
+    let a = begin(line, index, words, d);
+    text::put(line, a, b"\n")
+}
+
+// Which record accepts the word, and the end of the line.
+fn put_side(line: &mut [u8], at: usize, side: Side) -> usize
+    requires { ⌜ at + 20 ≤ length (now line) ⌝ }
+    ensures { λ r. ⌜ (r ≡ at + length (acceptedBy side)) × (now (line .exit) ≡ sets (now (line .entry)) at (acceptedBy side)) ⌝ }
+{
+    match side {
+        Side::First => text::put(line, at, b" accepted-by key\n"),
+        Side::Second => text::put(line, at, b" accepted-by answer\n"),
+    }
+}
+
+// The line of an answer whose words are not the key's.
+fn differ_line(line: &mut [u8], index: usize, d: usize, word: &[u8], side: Side) -> usize
+    requires { ⌜ Over 10 (now word) × (length (now word) < 64) × (longest ≤ length (now line)) ⌝ }
+    ensures { λ r. ⌜ Begins (now (line .exit)) r (differLine index d (now (word .entry)) side) ⌝ }
+{
+    let a = begin(line, index, b" differ dim ", d);
+    let b = text::put(line, a, b" word ");
+    let c = text::put_word(line, b, word);
+    put_side(line, c, side)
+}
+
+// The dimension of a well-formed record's language.
+fn dimension(bytes: &[u8]) -> usize
+    requires { ⌜ WellFormed (now bytes) ⌝ }
+    ensures { λ r. ⌜ r ≡ dimensionIn (now (bytes .entry)) ⌝ }
+{
+    let mut s = [0u64; 512];
+    let m = minimal::minimal_form(bytes, &mut s);
+    m.states
+}
+
+// The line of the key.
+fn key_line(line: &mut [u8], key: &[u8]) -> usize
+    requires { ⌜ longest ≤ length (now line) ⌝ }
+    ensures { λ r. ⌜ Begins (now (line .exit)) r (keyRecordLine (now (key .entry))) ⌝ }
+{
+    match record::check(key) {
+        Checked::Good => {
+            let d = dimension(key);
+            dim_line(line, 0, b" key dim ", d)
+        }
+        Checked::Refused { number, place } => refused_line(line, 0, number, place),
+    }
+}
+
+// The line of an answer: the verdict of the comparison with the key, and the answer's own dimension.
+fn answer_line(line: &mut [u8], index: usize, key: &[u8], answer: &[u8]) -> usize
+    requires { ⌜ longest ≤ length (now line) ⌝ }
+    ensures { λ r. ⌜ Begins (now (line .exit)) r (answerLine index (now (key .entry)) (now (answer .entry))) ⌝ }
+{
+    let mut word = [0u8; 64];
+    match compare::compare(key, answer, &mut word) {
+        Compared::Same => {
+            let d = dimension(answer);
+            dim_line(line, index, b" same dim ", d)
+        }
+        Compared::Differs { length, side } => {
+            let d = dimension(answer);
+            differ_line(line, index, d, &word[..length], side)
+        }
+        Compared::Refused {
+            number,
+            record: _,
+            place,
+        } => refused_line(line, index, number, place),
+    }
+}
+
+// Where a script's first record ends; 0 where none stands whole.
+fn key_end(script: &[u8]) -> usize
+    ensures { λ r. ⌜ (r ≡ afterPart (partAt (now (script .entry)) 0) 0) × (r ≤ length (now (script .entry))) ⌝ }
+{
+    match script::part_from(script, 0) {
+        Part::Whole { start: _, next } => next,
+        Part::Refused {
+            number: _,
+            place: _,
+        } => 0,
+        Part::End => 0,
+    }
+}
+
+// Where marking goes on after what stands at a position, as the record of an index: past a record, but the script's end after a
+// refusal 1 to 6 or any refusal of the key.
+pub fn past(script: &[u8], index: usize, at: usize) -> usize
+    ensures { λ r. ⌜ r ≡ pastOf (now (script .entry)) index at ⌝ }
+{
+    let part = script::part_from(script, at);
+    let Part::Whole { start, next } = part else {
+        return script.len();
+    };
+    if index != 0 {
+        return next;
+    }
+    let c = record::check(&script[start..next]);
+    let Checked::Good = c else {
+        return script.len();
+    };
+    next
+}
+
+// Where the record of an index stands; the script's end where marking ends before it.
+fn place(script: &[u8], index: usize) -> usize
+    ensures { λ r. ⌜ r ≡ placeOf (now (script .entry)) index ⌝ }
+{
+    let mut at = 0;
+    let mut i = 0;
+    while i < index {
+        if script.len() <= at {
+            return script.len();
+        }
+        at = past(script, i, at);
+        i += 1;
+    }
+    at
+}
+
+// The line of what stands at a position, as the key.
+fn key_part_line(line: &mut [u8], script: &[u8], at: usize) -> usize
+    requires { ⌜ longest ≤ length (now line) ⌝ }
+    ensures { λ r. ⌜ Begins (now (line .exit)) r (keyPartLine (now (script .entry)) (partAt (now (script .entry)) at)) ⌝ }
+{
+    match script::part_from(script, at) {
+        Part::Whole { start, next } => key_line(line, &script[start..next]),
+        Part::Refused { number, place } => refused_line(line, 0, number, place),
+        Part::End => refused_line(line, 0, 1, 0),
+    }
+}
+
+// The line of what stands at a position, as an answer.
+fn answer_part_line(line: &mut [u8], script: &[u8], index: usize, at: usize) -> usize
+    requires { ⌜ longest ≤ length (now line) ⌝ }
+    ensures { λ r. ⌜ Begins (now (line .exit)) r (answerPartLine (now (script .entry)) index (partAt (now (script .entry)) at)) ⌝ }
+{
+    match script::part_from(script, at) {
+        Part::Whole { start, next } => {
+            let end = key_end(script);
+            answer_line(line, index, &script[..end], &script[start..next])
+        }
+        Part::Refused { number, place } => refused_line(line, index, number, place),
+        Part::End => 0,
+    }
+}
+
+// The line of what stands at a position, as the record of an index; one line in place of all for a script that is too long.
+fn part_line(line: &mut [u8], script: &[u8], index: usize, at: usize) -> usize
+    requires { ⌜ longest ≤ length (now line) ⌝ }
+    ensures { λ r. ⌜ Begins (now (line .exit)) r (lineAt (now (script .entry)) index at) ⌝ }
+{
+    if MAX_SCRIPT < script.len() {
+        if index == 0 {
+            return text::put(line, 0, b"too long\n");
+        }
+        return 0;
+    }
+    if index == 0 {
+        return key_part_line(line, script, at);
+    }
+    answer_part_line(line, script, index, at)
+}
+
+// Writes the line of what stands at a position, as the record of an index: what a walk through a script calls, with `past`.
+pub fn line_at(script: &[u8], index: usize, at: usize, out: &mut [u8]) -> Written
+    ensures answer { λ r. ⌜ r ≡ answerOf (fit (length (now (out .entry))) (lineAt (now (script .entry)) index at)) ⌝ }
+    ensures buffer { λ _. ⌜ now (out .exit) ≡ bufferOf (fit (length (now (out .entry))) (lineAt (now (script .entry)) index at)) (now (out .entry)) ⌝ }
+{
+    let mut line = [0u8; LONGEST];
+    let n = part_line(&mut line, script, index, at);
+    give(&line, n, out)
+}
+
+// The marking service: writes the line of the record of an index, or no bytes where marking ends before it; it refuses only with 12.
+// `told`: for each record of a script that is not too long, the line tells of all its words what 01 asks. The key's line has the
+// dimension of its language. An answer's line says `same` exactly when the key accepts the same words; otherwise its word is the
+// first in shortlex order that just one of the two accepts, the one named accepts it, and the dimension is the answer's own.
+pub fn mark(script: &[u8], index: usize, out: &mut [u8]) -> Written
+    ensures answer { λ r. ⌜ r ≡ answerOf (markOutcome (now (script .entry)) index (length (now (out .entry)))) ⌝ }
+    ensures buffer { λ _. ⌜ now (out .exit) ≡ bufferOf (markOutcome (now (script .entry)) index (length (now (out .entry)))) (now (out .entry)) ⌝ }
+    ensures told { λ r. ⌜ (length (now (script .entry)) ≤ maxScript → (n : ℕ) → r ≡ Written.Done n → Told (now (script .entry)) index (take n (now (out .exit)))) ⌝ }
+{
+    let at = place(script, index);
+    line_at(script, index, at, out)
+}
