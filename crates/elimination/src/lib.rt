@@ -40,8 +40,9 @@ pub fn place(t: &mut Table, n: usize, d: usize, p: Row, y: Row, f: usize, g: usi
     ensures { λ r. ⌜ Placed n d (mask p) (mask y) f g (now (t .entry)) (now (t .exit)) (mask (r .row)) (r .count) (mask (r .pivots)) ⌝ }
 {
     let s = rows::and(y, p);
-    let e = rows::times(t, 0, s);
-    let c = rows::times(t, 1, s);
+    let w = rows::times_two(t, 0, 1, s);
+    let e = w.first;
+    let c = w.second;
     let left = rows::xor(y, e);
     if rows::is_none(left) {
         return Spot {

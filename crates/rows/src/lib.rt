@@ -184,3 +184,31 @@ pub fn times(t: &Table, l: usize, x: Row) -> Row
     }
     Row { bits: y }
 }
+
+// Two rows.
+pub struct Two {
+    pub first: Row,
+    pub second: Row,
+}
+
+// The row x times the matrices in blocks l and g, in one pass over the bits of x.
+pub fn times_two(t: &Table, l: usize, g: usize, x: Row) -> Two
+    requires { ⌜ (l < blocks) × (g < blocks) ⌝ }
+    ensures { λ r. ⌜ ((n : ℕ) → mask x < 2 ^ n → (mask (r .first) ≡ product n (mask x) (at (now (t .entry)) l)) × (mask (r .second) ≡ product n (mask x) (at (now (t .entry)) g))) ⌝ }
+{
+    let b = l * 64;
+    let c = g * 64;
+    let mut s = x.bits;
+    let mut y: u64 = 0;
+    let mut w: u64 = 0;
+    while s != 0 {
+        let q = u64::trailing_zeros(s) as usize;
+        y ^= t[b + q];
+        w ^= t[c + q];
+        s &= s - 1;
+    }
+    Two {
+        first: Row { bits: y },
+        second: Row { bits: w },
+    }
+}

@@ -22,17 +22,14 @@ room-at c =
     let x = c .before .before .before in
     let s = c .before .before .before .before .before .before .before .before .before in
     let a = s .args in
-    let r = has-room (a .n) (a .d) (mask (a .p)) (mask (a .y)) (a .t .now) (s .pre .3) (s .pre .0) (s .pre .1) (s .pre .2) (mask (x .before .before .before .before .before .and .result)) (x .before .before .before .before .before .and .ensures) (mask (x .before .before .before .times .result)) (x .before .before .before .times .ensures) (mask (x .before .times2 .result)) (x .before .times2 .ensures) (mask (x .xor .result)) (x .xor .ensures) (c .lowest .result) (c .lowest .ensures .1) in
+    let r = has-room (a .n) (a .d) (mask (a .p)) (mask (a .y)) (a .t .now) (s .pre .3) (s .pre .0) (s .pre .1) (s .pre .2) (mask (x .before .before .before .before .before .and .result)) (x .before .before .before .before .before .and .ensures) (mask (x .before .before .before .times-two .result .first)) (λ n h. x .before .before .before .times-two .ensures n h .0) (mask (x .before .before .before .times-two .result .second)) (λ n h. x .before .before .before .times-two .ensures n h .1) (mask (x .xor .result)) (x .xor .ensures) (c .lowest .result) (c .lowest .ensures .1) in
     omega (arith, s .pre .0)
 
 and-requires : tie.Need-and-requires
 and-requires c κs = search needs
 
-times-requires : tie.Need-times-requires
-times-requires c κs = search needs
-
-times-requires-2 : tie.Need-times-requires-2
-times-requires-2 c κs = search needs
+times-two-requires : tie.Need-times-two-requires
+times-two-requires c κs = search needs
 
 xor-requires : tie.Need-xor-requires
 xor-requires c κs = search needs
@@ -45,7 +42,7 @@ returns c =
     let x = c .before .before in
     let s = c .before .before .before .before .before .before .before .before in
     let a = s .args in
-    inl (place-old (a .n) (a .d) (mask (a .p)) (mask (a .y)) (a .t .now) (s .pre .3) (s .pre .0) (s .pre .1) (s .pre .2) (mask (x .before .before .before .before .before .and .result)) (x .before .before .before .before .before .and .ensures) (mask (x .before .before .before .times .result)) (x .before .before .before .times .ensures) (mask (x .before .times2 .result)) (x .before .times2 .ensures) (mask (x .xor .result)) (x .xor .ensures) (eqb-true (mask (x .xor .result)) 0 (sym (c .before .is-none .ensures) ∙ c .if1 .taken)))
+    inl (place-old (a .n) (a .d) (mask (a .p)) (mask (a .y)) (a .t .now) (s .pre .3) (s .pre .0) (s .pre .1) (s .pre .2) (mask (x .before .before .before .before .before .and .result)) (x .before .before .before .before .before .and .ensures) (mask (x .before .before .before .times-two .result .first)) (λ n h. x .before .before .before .times-two .ensures n h .0) (mask (x .before .before .before .times-two .result .second)) (λ n h. x .before .before .before .times-two .ensures n h .1) (mask (x .xor .result)) (x .xor .ensures) (eqb-true (mask (x .xor .result)) 0 (sym (c .before .is-none .ensures) ∙ c .if1 .taken)))
 
 lowest-requires : tie.Need-lowest-requires
 lowest-requires c κs = left-some c
@@ -95,7 +92,7 @@ returns-2 c =
     let x = c .before .before .before .before .before .before .before .before .before .before .before .before .before .before .before .before .before .before .before .before .before in
     let s = c .before .before .before .before .before .before .before .before .before .before .before .before .before .before .before .before .before .before .before .before .before .before .before .before .before .before .before in
     let a = s .args in
-    place-turn (a .n) (a .d) (mask (a .p)) (mask (a .y)) (a .t .now) (s .pre .3) (s .pre .0) (s .pre .1) (s .pre .2) (mask (x .before .before .before .before .before .and .result)) (x .before .before .before .before .before .and .ensures) (mask (x .before .before .before .times .result)) (x .before .before .before .times .ensures) (mask (x .before .times2 .result)) (x .before .times2 .ensures) (mask (x .xor .result)) (x .xor .ensures)
+    place-turn (a .n) (a .d) (mask (a .p)) (mask (a .y)) (a .t .now) (s .pre .3) (s .pre .0) (s .pre .1) (s .pre .2) (mask (x .before .before .before .before .before .and .result)) (x .before .before .before .before .before .and .ensures) (mask (x .before .before .before .times-two .result .first)) (λ n h. x .before .before .before .times-two .ensures n h .0) (mask (x .before .before .before .times-two .result .second)) (λ n h. x .before .before .before .times-two .ensures n h .1) (mask (x .xor .result)) (x .xor .ensures)
     (l .lowest .result) (l .lowest .ensures .1) (a .f) (a .g) (mask (c .before .before .before .before .before .before .before .before .before .before .before .before .before .before .before .before .before .unit .result)) (mask (c .before .before .before .before .before .before .before .before .before .before .before .before .before .before .before .before .xor2 .result)) (mask (c .before .unit2 .result)) (mask (c .xor3 .result))
     (c .before .before .before .before .before .before .before .before .before .before .before .before .before .before .fold .last .0) (c .before .before .before .before .before .before .before .before .before .before .before .before .store .last .0) (c .before .before .before .before .before .before .before .before .before .before .store2 .last .0) (c .before .before .before .before .before .before .before .before .store3 .last .0) (c .before .before .before .before .before .store4 .last .0) (c .before .before .store5 .last .0)
     (c .before .before .before .before .before .before .before .before .before .before .before .before .before .before .before .before .before .unit .ensures) (c .before .before .before .before .before .before .before .before .before .before .before .before .before .before .before .before .xor2 .ensures) (c .before .before .before .before .before .before .before .before .before .before .before .before .before .before .fold .ensures) (c .before .before .before .before .before .before .before .before .before .before .before .before .store .ensures) (c .before .before .before .before .before .before .before .before .before .before .store2 .ensures) (c .before .before .before .before .before .before .before .before .store3 .ensures)
@@ -108,8 +105,7 @@ place-spec =
     tie.close
     (tie.spec
     and-requires
-    times-requires
-    times-requires-2
+    times-two-requires
     xor-requires
     is-none-requires
     returns
