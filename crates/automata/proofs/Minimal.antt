@@ -159,7 +159,7 @@ bits-minimal a L A B bs s M = record {
     inside : (k : ℕ) → k < length bs → k < B .states
     inside k h = omega (arith, s .states, M .size)
 
-sum-cong : (k : ℕ) {f g : ℕ → ℕ} → ((i : ℕ) → i < k → f i ≡ g i) → sumBelow k f ≡ sumBelow k g
+pub sum-cong : (k : ℕ) {f g : ℕ → ℕ} → ((i : ℕ) → i < k → f i ≡ g i) → sumBelow k f ≡ sumBelow k g
 sum-cong zero h = refl
 sum-cong (suc k) {f} {g} h = rw (sum-cong k {f = f} {g = g} (λ i p. h i (omega arith)), h k (omega arith))
 

@@ -1,0 +1,126 @@
+-- A claim that passes its tests is one of what the services return.
+use mathlib.Core.Path.{_≡_, refl, sym, ap, ap₂, _∙_}
+use mathlib.Core.Bool.{Bool, true, false, false≢true}
+use mathlib.Core.List.{List, [], _∷_}
+use mathlib.Core.Option.{some}
+use Prim.Native.Nat.{ℕ, _+_, _*_, _≤_}
+use native.Mathlib.Omega.{arith}
+use lib.Dec.{leb}
+use lib.ListN.{length}
+use borrow.Author.Tests.{leb-true, lt-leb}
+use Rattle.automata.specs.Xor.{_⊕_}
+use Rattle.automata.specs.Automaton.{odd, accepts}
+use Rattle.automata.specs.Word.{Over}
+use Rattle.automata.specs.MinimalOf.{minimalOf, dimensionOf}
+use Rattle.automata.proofs.Span.{and-parts}
+use Rattle.automata.proofs.Dimension.{dimension-same}
+use Rattle.automata.proofs.Fields.{same-fields}
+use Rattle.comparison.proofs.SumLaws.{if-high}
+use Rattle.record.specs.Record.{maxStates, statesOf, lettersOf, checkOf, automatonOf, languageOf, encode}
+use Rattle.record.specs.Outcome.{Outcome, refused, checked, fit}
+use Rattle.record.specs.declared.Checked.the-variants.{Good}
+use Rattle.record.proofs.Refusals.{good-check}
+use Rattle.record.proofs.Encode.{fields-encode}
+use Rattle.record.proofs.Outcome.{fit-done}
+use Rattle.operands.specs.Operands.{pairOf, afterPair}
+use Rattle.testing.specs.Testing.{foreignFrom, testOf}
+use Rattle.minimal.specs.Minimal.{minimalBytes, minimalOutcome}
+use Rattle.minimal.proofs.MinimalLaws.{minimal-record}
+use Rattle.compare.specs.Compare.{sideOf, acceptorOf, differenceOf, compareOutcome, comparedAs}
+use Rattle.compare.specs.declared.Side.{Side}
+use Rattle.compare.specs.declared.Side.the-variants.{First, Second}
+use Rattle.compare.specs.declared.Compared.the-variants.{Differs}
+use Rattle.compare.proofs.CompareLaws.{outcome-word}
+use Rattle.operations.specs.Operations.{resultOf, sumOutcome, complementOutcome, mirrorOutcome}
+use Rattle.intersection.specs.Meet.{maxProduct, crossing, meetOutcome}
+use Rattle.samples.specs.Claims.{Task, minimal, sum, meet, inverse, mirror, lettersFor, Claim, accepted, rejected, paths, speaks, gives, differ}
+use Rattle.samples.specs.Answers.{automaton, outcomeOf, Served, verdict, Returned}
+use Rattle.samples.proofs.Data.{Passed, good-true, both, both-true, word-true}
+use Rattle.samples.proofs.Test.{tests}
+use Rattle.samples.proofs.Meaning.{formed, over, states, own, same, holds}
+
+-- ---- the test service
+
+over-foreign : (a : ℕ) (w : List ℕ) (i : ℕ) → Over a w → foreignFrom a w i ≡ Good
+unfolding foreignFrom
+over-foreign a [] i o = refl
+over-foreign a (l ∷ w) i o = rw (lt-leb a l (o .0)) (over-foreign a w (i + 1) (o .1))
+
+tested : (bs w : List ℕ) (b : Bool) → checkOf bs ≡ Good → foreignFrom (lettersOf bs) w 0 ≡ Good → accepts (automatonOf bs) w ≡ b → testOf bs w ≡ verdict b
+unfolding testOf
+tested bs w b e f h = rw (e, f, h)
+
+-- ---- the services that write a record
+
+module _ (t : Task) (r : List ℕ) (d : ℕ) (p : Passed (tests (gives t r d))) where
+  abbrev a : ℕ
+  a = lettersFor t
+
+  dimension : dimensionOf a (automaton t) ≡ d
+  dimension =
+      dimension-same a (automaton t) (automatonOf r) (same t r d p)
+      ∙ ap (λ x. dimensionOf x (automatonOf r)) (sym (over t r d p))
+      ∙ sym (minimal-record r (formed t r d p) .form .2)
+      ∙ ap statesOf (own t r d p)
+      ∙ states t r d p
+
+  minimal-bytes : encode a (minimalOf a (automaton t)) ≡ r
+  unfolding minimalBytes
+  minimal-bytes =
+      fields-encode a (minimalOf a (automaton t)) (minimalOf a (automatonOf r)) (same-fields a (automaton t) (automatonOf r) (same t r d p))
+      ∙ ap (λ x. encode x (minimalOf x (automatonOf r))) (sym (over t r d p))
+      ∙ own t r d p
+
+  -- Row 11 passes.
+  result : (room : ℕ) → resultOf a (automaton t) room ≡ fit room r
+  unfolding resultOf
+  result room =
+      let e : ℕ = dimensionOf a (automaton t) in
+      if-high maxStates e (refused 11 0 e) (fit room (encode a (minimalOf a (automaton t)))) (omega (arith, dimension, states t r d p, good-check r (formed t r d p) .front .states))
+      ∙ ap (fit room) minimal-bytes
+
+-- The checks pass, for meet row 10 too.
+outcome : (t : Task) (r : List ℕ) (d : ℕ) → Passed (tests (gives t r d)) → (room : ℕ) → outcomeOf t room ≡ fit room r
+unfolding minimalBytes minimalOutcome sumOutcome meetOutcome complementOutcome mirrorOutcome
+outcome (minimal bs) r d p room = ap (λ c. checked c 1 (fit room (minimalBytes bs))) (good-true (checkOf bs) (p .0)) ∙ ap (fit room) (minimal-bytes (minimal bs) r d p)
+outcome (sum bs cs) r d p room = ap (λ c. afterPair c (resultOf (lettersOf bs) (automaton (sum bs cs)) room)) (both-true (pairOf bs cs) (p .0)) ∙ result (sum bs cs) r d p room
+outcome (meet bs cs) r d p room =
+    let e : ℕ = dimensionOf (lettersOf bs) (automatonOf bs) * dimensionOf (lettersOf bs) (automatonOf cs) in
+    let rest : Outcome = resultOf (lettersOf bs) (automaton (meet bs cs)) room in
+    let t = and-parts (both (pairOf bs cs)) (leb e maxProduct) (p .0) in
+    ap (λ c. afterPair c (crossing e rest)) (both-true (pairOf bs cs) (t .0))
+    ∙ if-high maxProduct e (refused 10 0 e) rest (leb-true e maxProduct (t .1))
+    ∙ result (meet bs cs) r d p room
+outcome (inverse bs) r d p room = ap (λ c. checked c 1 (resultOf (lettersOf bs) (automaton (inverse bs)) room)) (good-true (checkOf bs) (p .0)) ∙ result (inverse bs) r d p room
+outcome (mirror bs) r d p room = ap (λ c. checked c 1 (resultOf (lettersOf bs) (automaton (mirror bs)) room)) (good-true (checkOf bs) (p .0)) ∙ result (mirror bs) r d p room
+
+-- ---- the comparison
+
+-- Just one of the two accepts the word, and the side named does.
+side-of : (s : Side) (bs cs w : List ℕ) → languageOf (acceptorOf s bs cs) w ≡ true → languageOf bs w ⊕ languageOf cs w ≡ true → sideOf (languageOf bs w) ≡ s
+side-of First bs cs w h e = ap sideOf h
+side-of Second bs cs w h e = ap sideOf (other (languageOf bs w) (ap (λ b. languageOf bs w ⊕ b) (sym h) ∙ e))
+  where
+    other : (b : Bool) → b ⊕ true ≡ true → b ≡ false
+    other true q = absurd (false≢true q)
+    other false q = refl
+
+differs : (bs cs w : List ℕ) (s : Side) → Passed (tests (differ bs cs w s)) → Returned (differ bs cs w s)
+unfolding differenceOf
+differs bs cs w s p =
+    let found : differenceOf bs cs ≡ some w = word-true w (differenceOf bs cs) (p .1 .0) in
+    let word : (room : ℕ) → compareOutcome bs cs room ≡ fit room w = λ room. outcome-word bs cs room (both-true (pairOf bs cs) (p .0)) w found in
+    let first = holds (differ bs cs w s) p in (
+      word,
+      λ room h. ap₂ (λ x o. comparedAs x (automatonOf bs) o) found (word room ∙ fit-done room w refl h) ∙ ap (Differs (length w)) (side-of s bs cs w (first .1) (first .0 .differs)),
+    )
+
+-- ---- each claim
+
+pub returned : (c : Claim) → Passed (tests c) → Returned c
+returned (accepted bs w) p = tested bs w true (good-true (checkOf bs) (p .0)) (good-true (foreignFrom (lettersOf bs) w 0) (p .1 .0)) (holds (accepted bs w) p)
+returned (rejected bs w) p = tested bs w false (good-true (checkOf bs) (p .0)) (good-true (foreignFrom (lettersOf bs) w 0) (p .1 .0)) (holds (rejected bs w) p)
+returned (paths bs k) p = λ w ow. tested bs w (odd k) (good-true (checkOf bs) (p .0)) (over-foreign (lettersOf bs) w 0 ow) (ap odd (holds (paths bs k) p w ow))
+returned (speaks bs s) p = λ w ow. tested bs w _ (good-true (checkOf bs) (p .0)) (over-foreign (lettersOf bs) w 0 ow) (sym (holds (speaks bs s) p w ow))
+returned (gives t r d) p = record { bytes = outcome t r d p; dimension = dimension t r d p }
+returned (differ bs cs w s) p = differs bs cs w s p

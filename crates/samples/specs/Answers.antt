@@ -1,0 +1,57 @@
+-- The claims read through the services' contracts: what each says of what a service returns and leaves in the lent buffer.
+--   automaton t      the automaton that the service's outcome speaks of
+--   outcomeOf t      what the service does with a buffer of so many bytes
+--   Returned c       what the claim says of the services
+use mathlib.Core.Path.{_≡_}
+use mathlib.Core.Bool.{Bool, cond}
+use mathlib.Core.List.{List}
+use Prim.Native.Nat.{ℕ, _≤_}
+use lib.ListN.{length}
+use Rattle.automata.specs.Automaton.{Automaton, odd}
+use Rattle.automata.specs.Word.{Over}
+use Rattle.automata.specs.MinimalOf.{dimensionOf}
+use Rattle.automata.specs.Operations.{sumOf, meetOf, complementOf, mirrorOf}
+use Rattle.record.specs.Record.{lettersOf, automatonOf}
+use Rattle.record.specs.Outcome.{Outcome, fit}
+use Rattle.testing.specs.Testing.{testOf}
+use Rattle.testing.specs.declared.Tested.{Tested}
+use Rattle.testing.specs.declared.Tested.the-variants.{Accepted, Rejected}
+use Rattle.minimal.specs.Minimal.{minimalOutcome}
+use Rattle.compare.specs.Compare.{differenceOf, compareOutcome, comparedAs}
+use Rattle.compare.specs.declared.Compared.the-variants.{Differs}
+use Rattle.operations.specs.Operations.{sumOutcome, complementOutcome, mirrorOutcome}
+use Rattle.intersection.specs.Meet.{meetOutcome}
+use Rattle.samples.specs.Languages.{wordsIn}
+use Rattle.samples.specs.Claims.{Task, minimal, sum, meet, inverse, mirror, lettersFor, Claim, accepted, rejected, paths, speaks, gives, differ}
+
+abbrev pub automaton : Task → Automaton
+automaton (minimal bs) = automatonOf bs
+automaton (sum bs cs) = sumOf (automatonOf bs) (automatonOf cs)
+automaton (meet bs cs) = meetOf (automatonOf bs) (automatonOf cs)
+automaton (inverse bs) = complementOf (automatonOf bs)
+automaton (mirror bs) = mirrorOf (automatonOf bs)
+
+abbrev pub outcomeOf : Task → ℕ → Outcome
+outcomeOf (minimal bs) = minimalOutcome bs
+outcomeOf (sum bs cs) = sumOutcome bs cs
+outcomeOf (meet bs cs) = meetOutcome bs cs
+outcomeOf (inverse bs) = complementOutcome bs
+outcomeOf (mirror bs) = mirrorOutcome bs
+
+-- The record r, or row 12; the minimal service returns the dimension besides.
+pub record Served (t : Task) (r : List ℕ) (d : ℕ) : Type 0 where
+  pub bytes : (room : ℕ) → outcomeOf t room ≡ fit room r
+  pub dimension : dimensionOf (lettersFor t) (automaton t) ≡ d
+
+abbrev pub verdict : Bool → Tested
+verdict b = cond b Accepted Rejected
+
+abbrev pub Returned : Claim → Type 0
+Returned (accepted bs w) = testOf bs w ≡ Accepted
+Returned (rejected bs w) = testOf bs w ≡ Rejected
+Returned (paths bs k) = (w : List ℕ) → Over (lettersOf bs) w → testOf bs w ≡ verdict (odd k)
+Returned (speaks bs s) = (w : List ℕ) → Over (lettersOf bs) w → testOf bs w ≡ verdict (wordsIn s w)
+Returned (gives t r d) = Served t r d
+Returned (differ bs cs w s) =
+    ((room : ℕ) → compareOutcome bs cs room ≡ fit room w)
+    × ((room : ℕ) → length w ≤ room → comparedAs (differenceOf bs cs) (automatonOf bs) (compareOutcome bs cs room) ≡ Differs (length w) s)

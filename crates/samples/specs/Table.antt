@@ -1,0 +1,113 @@
+-- The starred samples as one table (01: Samples, 1 to 8).
+--   bytes n a fields    the record of n states over a letters: I, F and the rows
+--   samples             what the starred samples say, in 01's order
+--   Every P cs          P holds of each claim of a list
+use mathlib.Core.List.{List, [], _∷_, _++_}
+use Prim.Native.Nat.{ℕ, zero, suc}
+use Rattle.automata.specs.WordList.{joinBelow}
+use Rattle.record.specs.Bytes.{allBytes}
+use Rattle.record.specs.Record.{rowBytes, headOf}
+use Rattle.compare.specs.declared.Side.the-variants.{First, Second}
+use Rattle.catalogue.specs.Entries.{recordOf}
+use Rattle.samples.specs.Languages.{Named, entry, beginning, star}
+use Rattle.samples.specs.Claims.{Task, minimal, sum, meet, inverse, mirror, Claim, accepted, rejected, paths, speaks, gives, differ}
+
+-- ---- the records
+
+abbrev pub bytes : ℕ → ℕ → List ℕ → List ℕ
+bytes n a fields = headOf n a ++ allBytes rowBytes fields
+
+-- The four states of document 004's X 12.
+unfoldable pub x12 : List ℕ
+x12 = bytes 4 2 (1 ∷ 3 ∷ 2 ∷ 4 ∷ 1 ∷ 8 ∷ 1 ∷ 1 ∷ 8 ∷ 8 ∷ [])
+
+-- n = 0 over a letters, and one state that accepts every word over them.
+abbrev ones : ℕ → List ℕ
+ones zero = []
+ones (suc k) = 1 ∷ ones k
+
+unfoldable pub noStates : ℕ → List ℕ
+noStates a = bytes 0 a (0 ∷ 0 ∷ [])
+
+unfoldable pub oneState : ℕ → List ℕ
+oneState a = bytes 1 a (1 ∷ 1 ∷ ones a)
+
+-- One letter, n = 2, I = F = 3, rows 1, 2.
+unfoldable pub twoPaths : List ℕ
+twoPaths = bytes 2 1 (3 ∷ 3 ∷ 1 ∷ 2 ∷ [])
+
+-- 0* and 1* over two letters.
+unfoldable pub zeroStar : List ℕ
+zeroStar = bytes 1 2 (1 ∷ 1 ∷ 1 ∷ 0 ∷ [])
+
+unfoldable pub oneStar : List ℕ
+oneStar = bytes 1 2 (1 ∷ 1 ∷ 0 ∷ 1 ∷ [])
+
+-- One letter, a cycle of seven states; states 0, 1, 2 and 4 are final.
+unfoldable pub cycle : List ℕ
+cycle = bytes 7 1 (1 ∷ 23 ∷ 2 ∷ 4 ∷ 8 ∷ 16 ∷ 32 ∷ 64 ∷ 1 ∷ [])
+
+-- The minimal records of two results: the sum of 0* and 1*, and the words that begin with 1.
+unfoldable pub starSum : List ℕ
+starSum = bytes 2 2 (1 ∷ 2 ∷ 2 ∷ 2 ∷ 3 ∷ 0 ∷ [])
+
+unfoldable pub firstOne : List ℕ
+firstOne = bytes 2 2 (1 ∷ 2 ∷ 0 ∷ 2 ∷ 2 ∷ 2 ∷ [])
+
+-- ---- the samples
+
+-- 1. X accepts the empty word, 0, 1, 000 and rejects 00, 001.
+abbrev sample1 : List ℕ → List Claim
+sample1 x =
+    speaks x (entry 4)
+    ∷ accepted x []
+    ∷ accepted x (0 ∷ [])
+    ∷ accepted x (1 ∷ [])
+    ∷ accepted x (0 ∷ 0 ∷ 0 ∷ [])
+    ∷ rejected x (0 ∷ 0 ∷ [])
+    ∷ rejected x (0 ∷ 0 ∷ 1 ∷ [])
+    ∷ []
+
+-- 2. X 12's machine has minimal record n = 2, I = 1, F = 3, rows 2, 3, 1, 1.
+abbrev sample2 : List Claim
+sample2 = gives (minimal x12) (bytes 2 2 (1 ∷ 3 ∷ 2 ∷ 3 ∷ 1 ∷ 1 ∷ [])) 2 ∷ []
+
+-- 3. X against all words: 00.
+abbrev sample3 : List ℕ → List Claim
+sample3 x = speaks (recordOf 1) (entry 1) ∷ differ x (recordOf 1) (0 ∷ 0 ∷ []) Second ∷ []
+
+-- 4. n = 0: dimension 0; its complement: 1.
+abbrev sample4 : ℕ → List Claim
+sample4 a = gives (minimal (noStates a)) (noStates a) 0 ∷ gives (inverse (noStates a)) (oneState a) 1 ∷ []
+
+-- 5. One letter, n = 2, I = F = 3, rows 1, 2: two paths each time, nothing accepted, dimension 0.
+abbrev sample5 : List Claim
+sample5 = paths twoPaths 2 ∷ speaks twoPaths (entry 0) ∷ gives (minimal twoPaths) (noStates 1) 0 ∷ []
+
+-- 6. Sum of 0* and 1* over two letters: dimension 2. Their meet: the empty word only, 1.
+abbrev sample6 : List Claim
+sample6 =
+    speaks zeroStar (star 0)
+    ∷ speaks oneStar (star 1)
+    ∷ gives (sum zeroStar oneStar) starSum 2
+    ∷ gives (meet zeroStar oneStar) (recordOf 2) 1
+    ∷ speaks (recordOf 2) (entry 2)
+    ∷ []
+
+-- 7. The 7-state cycle for catalogue 5: dimension 3.
+abbrev sample7 : List Claim
+sample7 = speaks cycle (entry 5) ∷ gives (minimal cycle) (recordOf 5) 3 ∷ []
+
+-- 8. Words ending in 1, mirrored: words beginning with 1, dimension 2.
+abbrev sample8 : List Claim
+sample8 = speaks (recordOf 3) (entry 3) ∷ gives (mirror (recordOf 3)) firstOne 2 ∷ speaks firstOne beginning ∷ []
+
+-- X is catalogue record 4, and X 12's machine; n = 0 goes with each number of letters.
+unfoldable pub samples : List Claim
+samples =
+    sample1 (recordOf 4) ++ (sample1 x12 ++ (sample2 ++ (sample3 (recordOf 4) ++ (sample3 x12
+    ++ (joinBelow 8 (λ k. sample4 (suc k)) ++ (sample5 ++ (sample6 ++ (sample7 ++ sample8))))))))
+
+abbrev pub Every : (Claim → Type 0) → List Claim → Type 0
+Every P [] = Unit {0}
+Every P (c ∷ cs) = P c × Every P cs
