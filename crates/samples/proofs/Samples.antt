@@ -4,20 +4,25 @@ use mathlib.Core.Bool.{true}
 use mathlib.Core.List.{List, [], _∷_}
 use Rattle.automata.proofs.Span.{and-parts}
 use Rattle.samples.specs.Claims.{Claim, Holds}
-use Rattle.samples.specs.Table.{Every, samples}
+use Rattle.samples.specs.Table.{samples, Every}
 use Rattle.samples.specs.Answers.{Returned}
 use Rattle.samples.proofs.Data.{Passed, every, every-true}
-use Rattle.samples.proofs.Test.{tests, passing, table-passes}
+use Rattle.samples.proofs.Test.{tests, passing, allPassing, table-passes}
 use Rattle.samples.proofs.Meaning.{holds}
 use Rattle.samples.proofs.Services.{returned}
 
 -- A law for each claim that passes its tests holds at each entry of a table that passes.
-each : (P : Claim → Type 0) → ((c : Claim) → Passed (tests c) → P c) → (cs : List Claim) → passing cs ≡ true → Every P cs
-each P law [] e = tt
-each P law (c ∷ cs) e = let t = and-parts (every (tests c)) (passing cs) e in (law c (every-true (tests c) (t .0)), each P law cs (t .1))
+module _ (P : Claim → Type 0) (law : (c : Claim) → Passed (tests c) → P c) where
+  each : (cs : List Claim) → passing cs ≡ true → Every P cs
+  each [] e = tt
+  each (c ∷ cs) e = let t = and-parts (every (tests c)) (passing cs) e in (law c (every-true (tests c) (t .0)), each cs (t .1))
 
-pub samples-hold : Every Holds samples
-samples-hold = each Holds holds samples table-passes
+  all : (ss : List (List Claim)) → allPassing ss ≡ true → Every (Every P) ss
+  all [] e = tt
+  all (s ∷ ss) e = let t = and-parts (passing s) (allPassing ss) e in (each s (t .0), all ss (t .1))
 
-pub samples-returned : Every Returned samples
-samples-returned = each Returned returned samples table-passes
+pub samples-hold : Every (Every Holds) samples
+samples-hold = all Holds holds samples table-passes
+
+pub samples-returned : Every (Every Returned) samples
+samples-returned = all Returned returned samples table-passes

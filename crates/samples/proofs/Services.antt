@@ -21,7 +21,7 @@ use Rattle.record.specs.Outcome.{Outcome, refused, checked, fit}
 use Rattle.record.specs.declared.Checked.the-variants.{Good}
 use Rattle.record.proofs.Refusals.{good-check}
 use Rattle.record.proofs.Encode.{fields-encode}
-use Rattle.record.proofs.Outcome.{fit-done}
+use Rattle.record.proofs.Outcome.{fit-done, fit-short}
 use Rattle.operands.specs.Operands.{pairOf, afterPair}
 use Rattle.testing.specs.Testing.{foreignFrom, testOf}
 use Rattle.minimal.specs.Minimal.{minimalBytes, minimalOutcome}
@@ -110,9 +110,11 @@ unfolding differenceOf
 differs bs cs w s p =
     let found : differenceOf bs cs ≡ some w = word-true w (differenceOf bs cs) (p .1 .0) in
     let word : (room : ℕ) → compareOutcome bs cs room ≡ fit room w = λ room. outcome-word bs cs room (both-true (pairOf bs cs) (p .0)) w found in
-    let first = holds (differ bs cs w s) p in (
+    let first = holds (differ bs cs w s) p in
+    let side : sideOf (languageOf bs w) ≡ s = side-of s bs cs w (first .1) (first .0 .differs) in (
       word,
-      λ room h. ap₂ (λ x o. comparedAs x (automatonOf bs) o) found (word room ∙ fit-done room w refl h) ∙ ap (Differs (length w)) (side-of s bs cs w (first .1) (first .0 .differs)),
+      λ room h. ap₂ (λ x o. comparedAs x (automatonOf bs) o) found (word room ∙ fit-done room w refl h) ∙ ap (Differs (length w)) side,
+      λ room h. ap₂ (λ x o. comparedAs x (automatonOf bs) o) found (word room ∙ fit-short room w refl h),
     )
 
 -- ---- each claim

@@ -16,7 +16,7 @@ use Rattle.compare.specs.Compare.{acceptorOf}
 use Rattle.intersection.specs.Meet.{maxProduct}
 use Rattle.catalogue.specs.Entries.{entryOf, lettersAt, recordOf}
 use Rattle.samples.specs.Claims.{Task, minimal, sum, meet, inverse, mirror, lettersFor, Claim, accepted, rejected, paths, speaks, gives, differ}
-use Rattle.samples.specs.Table.{x12, noStates, oneState, twoPaths, zeroStar, oneStar, cycle, starSum, firstOne, samples}
+use Rattle.samples.specs.Table.{x12, x, noStates, oneState, twoPaths, zeroStar, oneStar, cycle, starSum, firstOne, samples}
 use Rattle.samples.specs.Answers.{automaton}
 use Rattle.samples.proofs.Data.{every, good, both, sameList, noWord, isWord, allBelow}
 use Rattle.samples.proofs.Names.{machine, lettersIn, known}
@@ -75,6 +75,10 @@ abbrev pub passing : List Claim → Bool
 passing [] = true
 passing (c ∷ cs) = every (tests c) && passing cs
 
-pub table-passes : passing samples ≡ true
-unfolding samples x12 noStates oneState twoPaths zeroStar oneStar cycle starSum firstOne recordOf entryOf lettersAt frontOf checkOf strayFrom pairOf number bytesOf allBytes encode minimalOf minimalBytes basisWords dimensionOf firstDifference foreignFrom
+abbrev pub allPassing : List (List Claim) → Bool
+allPassing [] = true
+allPassing (s ∷ ss) = passing s && allPassing ss
+
+pub table-passes : allPassing samples ≡ true
+unfolding samples x12 x noStates oneState twoPaths zeroStar oneStar cycle starSum firstOne recordOf entryOf lettersAt frontOf checkOf strayFrom pairOf number bytesOf allBytes encode minimalOf minimalBytes basisWords dimensionOf firstDifference foreignFrom
 table-passes = refl

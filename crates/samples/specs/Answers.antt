@@ -2,23 +2,27 @@
 --   automaton t      the automaton that the service's outcome speaks of
 --   outcomeOf t      what the service does with a buffer of so many bytes
 --   Returned c       what the claim says of the services
+--   Wrote r buf w exit       an answer w and a buffer at exit: the record r was written into buf, or row 12 refused it
+--   Minimises r d buf w exit    the same of the minimal service, whose answer has the dimension d
 use mathlib.Core.Path.{_≡_}
 use mathlib.Core.Bool.{Bool, cond}
 use mathlib.Core.List.{List}
-use Prim.Native.Nat.{ℕ, _≤_}
+use Prim.Native.Nat.{ℕ, _≤_, _<_}
 use lib.ListN.{length}
 use Rattle.automata.specs.Automaton.{Automaton, odd}
 use Rattle.automata.specs.Word.{Over}
 use Rattle.automata.specs.MinimalOf.{dimensionOf}
 use Rattle.automata.specs.Operations.{sumOf, meetOf, complementOf, mirrorOf}
 use Rattle.record.specs.Record.{lettersOf, automatonOf}
-use Rattle.record.specs.Outcome.{Outcome, fit}
+use Rattle.record.specs.Outcome.{Outcome, answerOf, bufferOf, fit}
+use Rattle.record.specs.declared.Written.{Written}
 use Rattle.testing.specs.Testing.{testOf}
 use Rattle.testing.specs.declared.Tested.{Tested}
 use Rattle.testing.specs.declared.Tested.the-variants.{Accepted, Rejected}
-use Rattle.minimal.specs.Minimal.{minimalOutcome}
+use Rattle.minimal.specs.Minimal.{minimalOutcome, minimisedAs}
+use Rattle.minimal.specs.declared.Minimised.{Minimised}
 use Rattle.compare.specs.Compare.{differenceOf, compareOutcome, comparedAs}
-use Rattle.compare.specs.declared.Compared.the-variants.{Differs}
+use Rattle.compare.specs.declared.Compared.the-variants.{Differs, Refused as Withheld}
 use Rattle.operations.specs.Operations.{sumOutcome, complementOutcome, mirrorOutcome}
 use Rattle.intersection.specs.Meet.{meetOutcome}
 use Rattle.samples.specs.Languages.{wordsIn}
@@ -55,3 +59,12 @@ Returned (gives t r d) = Served t r d
 Returned (differ bs cs w s) =
     ((room : ℕ) → compareOutcome bs cs room ≡ fit room w)
     × ((room : ℕ) → length w ≤ room → comparedAs (differenceOf bs cs) (automatonOf bs) (compareOutcome bs cs room) ≡ Differs (length w) s)
+    × ((room : ℕ) → room < length w → comparedAs (differenceOf bs cs) (automatonOf bs) (compareOutcome bs cs room) ≡ Withheld 12 0 (length w))
+
+-- ---- a call
+
+abbrev pub Wrote : List ℕ → List ℕ → Written → List ℕ → Type 0
+Wrote r buf w exit = (w ≡ answerOf (fit (length buf) r)) × (exit ≡ bufferOf (fit (length buf) r) buf)
+
+abbrev pub Minimises : List ℕ → ℕ → List ℕ → Minimised → List ℕ → Type 0
+Minimises r d buf w exit = (w ≡ minimisedAs d (answerOf (fit (length buf) r))) × (exit ≡ bufferOf (fit (length buf) r) buf)

@@ -1,7 +1,7 @@
 -- The starred samples as one table (01: Samples, 1 to 8).
 --   bytes n a fields    the record of n states over a letters: I, F and the rows
---   samples             what the starred samples say, in 01's order
---   Every P cs          P holds of each claim of a list
+--   samples             what each starred sample says, in 01's order
+--   Every P xs          P holds of each member of a list
 use mathlib.Core.List.{List, [], _∷_, _++_}
 use Prim.Native.Nat.{ℕ, zero, suc}
 use Rattle.automata.specs.WordList.{joinBelow}
@@ -20,6 +20,10 @@ bytes n a fields = headOf n a ++ allBytes rowBytes fields
 -- The four states of document 004's X 12.
 unfoldable pub x12 : List ℕ
 x12 = bytes 4 2 (1 ∷ 3 ∷ 2 ∷ 4 ∷ 1 ∷ 8 ∷ 1 ∷ 1 ∷ 8 ∷ 8 ∷ [])
+
+-- Its minimal record.
+unfoldable pub x : List ℕ
+x = bytes 2 2 (1 ∷ 3 ∷ 2 ∷ 3 ∷ 1 ∷ 1 ∷ [])
 
 -- n = 0 over a letters, and one state that accepts every word over them.
 abbrev ones : ℕ → List ℕ
@@ -57,8 +61,8 @@ firstOne = bytes 2 2 (1 ∷ 2 ∷ 0 ∷ 2 ∷ 2 ∷ 2 ∷ [])
 -- ---- the samples
 
 -- 1. X accepts the empty word, 0, 1, 000 and rejects 00, 001.
-abbrev sample1 : List ℕ → List Claim
-sample1 x =
+abbrev languageOfX : List ℕ → List Claim
+languageOfX x =
     speaks x (entry 4)
     ∷ accepted x []
     ∷ accepted x (0 ∷ [])
@@ -68,17 +72,25 @@ sample1 x =
     ∷ rejected x (0 ∷ 0 ∷ 1 ∷ [])
     ∷ []
 
+-- X is X 12's machine, and catalogue record 4.
+abbrev sample1 : List Claim
+sample1 = languageOfX x12 ++ languageOfX (recordOf 4)
+
 -- 2. X 12's machine has minimal record n = 2, I = 1, F = 3, rows 2, 3, 1, 1.
 abbrev sample2 : List Claim
-sample2 = gives (minimal x12) (bytes 2 2 (1 ∷ 3 ∷ 2 ∷ 3 ∷ 1 ∷ 1 ∷ [])) 2 ∷ []
+sample2 = gives (minimal x12) x 2 ∷ []
 
 -- 3. X against all words: 00.
-abbrev sample3 : List ℕ → List Claim
-sample3 x = speaks (recordOf 1) (entry 1) ∷ differ x (recordOf 1) (0 ∷ 0 ∷ []) Second ∷ []
+abbrev sample3 : List Claim
+sample3 =
+    speaks (recordOf 1) (entry 1)
+    ∷ differ x12 (recordOf 1) (0 ∷ 0 ∷ []) Second
+    ∷ differ (recordOf 4) (recordOf 1) (0 ∷ 0 ∷ []) Second
+    ∷ []
 
--- 4. n = 0: dimension 0; its complement: 1.
-abbrev sample4 : ℕ → List Claim
-sample4 a = gives (minimal (noStates a)) (noStates a) 0 ∷ gives (inverse (noStates a)) (oneState a) 1 ∷ []
+-- 4. n = 0: dimension 0; its complement: 1. With each number of letters, 1 to 8.
+abbrev sample4 : List Claim
+sample4 = joinBelow 8 (λ k. gives (minimal (noStates (suc k))) (noStates (suc k)) 0 ∷ gives (inverse (noStates (suc k))) (oneState (suc k)) 1 ∷ [])
 
 -- 5. One letter, n = 2, I = F = 3, rows 1, 2: two paths each time, nothing accepted, dimension 0.
 abbrev sample5 : List Claim
@@ -87,27 +99,26 @@ sample5 = paths twoPaths 2 ∷ speaks twoPaths (entry 0) ∷ gives (minimal twoP
 -- 6. Sum of 0* and 1* over two letters: dimension 2. Their meet: the empty word only, 1.
 abbrev sample6 : List Claim
 sample6 =
-    speaks zeroStar (star 0)
-    ∷ speaks oneStar (star 1)
-    ∷ gives (sum zeroStar oneStar) starSum 2
+    gives (sum zeroStar oneStar) starSum 2
     ∷ gives (meet zeroStar oneStar) (recordOf 2) 1
     ∷ speaks (recordOf 2) (entry 2)
+    ∷ speaks zeroStar (star 0)
+    ∷ speaks oneStar (star 1)
     ∷ []
 
 -- 7. The 7-state cycle for catalogue 5: dimension 3.
 abbrev sample7 : List Claim
-sample7 = speaks cycle (entry 5) ∷ gives (minimal cycle) (recordOf 5) 3 ∷ []
+sample7 = gives (minimal cycle) (recordOf 5) 3 ∷ speaks cycle (entry 5) ∷ []
 
 -- 8. Words ending in 1, mirrored: words beginning with 1, dimension 2.
 abbrev sample8 : List Claim
-sample8 = speaks (recordOf 3) (entry 3) ∷ gives (mirror (recordOf 3)) firstOne 2 ∷ speaks firstOne beginning ∷ []
+sample8 = gives (mirror (recordOf 3)) firstOne 2 ∷ speaks firstOne beginning ∷ speaks (recordOf 3) (entry 3) ∷ []
 
--- X is catalogue record 4, and X 12's machine; n = 0 goes with each number of letters.
-unfoldable pub samples : List Claim
-samples =
-    sample1 (recordOf 4) ++ (sample1 x12 ++ (sample2 ++ (sample3 (recordOf 4) ++ (sample3 x12
-    ++ (joinBelow 8 (λ k. sample4 (suc k)) ++ (sample5 ++ (sample6 ++ (sample7 ++ sample8))))))))
+unfoldable pub samples : List (List Claim)
+samples = sample1 ∷ sample2 ∷ sample3 ∷ sample4 ∷ sample5 ∷ sample6 ∷ sample7 ∷ sample8 ∷ []
 
-abbrev pub Every : (Claim → Type 0) → List Claim → Type 0
+-- ---- what holds of a table
+
+abbrev pub Every : {X : Type 0} → (X → Type 0) → List X → Type 0
 Every P [] = Unit {0}
-Every P (c ∷ cs) = P c × Every P cs
+Every P (x ∷ xs) = P x × Every P xs

@@ -7,49 +7,18 @@ use make::head;
 use make::power;
 
 // Language X, n = 2 over two letters: 31 bytes.
-const X: [u8; 31] = [
-    0x4E,
-    0x58,
-    0x41,
-    1,
-    0,
-    2,
-    2,
-    1,
-    0,
-    0,
-    0,
-    3,
-    0,
-    0,
-    0,
-    2,
-    0,
-    0,
-    0,
-    3,
-    0,
-    0,
-    0,
-    1,
-    0,
-    0,
-    0,
-    1,
-    0,
-    0,
-    0,
-];
+const X: [u8; 31] =
+    *b"NXA\x01\x00\x02\x02\x01\x00\x00\x00\x03\x00\x00\x00\x02\x00\x00\x00\x03\x00\x00\x00\x01\x00\x00\x00\x01\x00\x00\x00";
 
 // No word, over one letter and over two.
-const NOTHING: [u8; 15] = [0x4E, 0x58, 0x41, 1, 0, 0, 1, 0, 0, 0, 0, 0, 0, 0, 0];
+const NOTHING: [u8; 15] = *b"NXA\x01\x00\x00\x01\x00\x00\x00\x00\x00\x00\x00\x00";
 
-const NOTHING_OF_TWO: [u8; 15] = [0x4E, 0x58, 0x41, 1, 0, 0, 2, 0, 0, 0, 0, 0, 0, 0, 0];
+const NOTHING_OF_TWO: [u8; 15] = *b"NXA\x01\x00\x00\x02\x00\x00\x00\x00\x00\x00\x00\x00";
 
 // 9. Only 0^31, one letter: dimension 32, against nothing the word has 31 letters; its complement is refused 11, place 33.
 fn sample_9() {
     let mut only = [0u8; 143];
-    let mut out = [0u8; 1039];
+    let mut out = [0u8; 143];
     power(&mut only, 1, 31, 15);
     io::write_all(1, b"9: minimal ");
     show::minimised(minimal::minimal(&only, &mut out));
@@ -82,7 +51,7 @@ fn sample_10() {
 
 // 10. Only 0^7 met with only 0^7 has product 64 and passes.
 fn sample_10_meet() {
-    let mut out = [0u8; 1039];
+    let mut out = [0u8; 143];
     let mut seven = [0u8; 47];
     power(&mut seven, 1, 7, 15);
     io::write_all(1, b"10: only 0^7 met with itself ");
@@ -91,7 +60,7 @@ fn sample_10_meet() {
 
 // A record that rows 1 to 7 refuse: by itself, and as the second of two.
 fn refuse(row: &[u8], bytes: &[u8]) {
-    let mut out = [0u8; 1039];
+    let mut out = [0u8; 143];
     io::write_all(1, row);
     show::written(record::rewrite(bytes, &mut out));
     io::write_all(1, row);
@@ -99,7 +68,7 @@ fn refuse(row: &[u8], bytes: &[u8]) {
 }
 
 // Rows 1 to 7, each with its sample.
-fn rows_of_a_record() {
+fn rows_1_to_7() {
     refuse(b"row 1: ", b"");
     refuse(
         b"row 2: ",
@@ -125,9 +94,18 @@ fn rows_of_a_record() {
     );
 }
 
+// Row 8: a = 1 and a = 2. Row 9: a = 2, word 0 2.
+fn rows_8_and_9() {
+    let mut out = [0u8; 143];
+    io::write_all(1, b"row 8: ");
+    show::written(operations::sum(&NOTHING, &NOTHING_OF_TWO, &mut out));
+    io::write_all(1, b"row 9: ");
+    show::tested(testing::test(&X, b"\x00\x02"));
+}
+
 // Row 10: only 0^8 with only 0^7.
 fn row_10() {
-    let mut out = [0u8; 1039];
+    let mut out = [0u8; 143];
     let mut seven = [0u8; 47];
     let mut eight = [0u8; 51];
     power(&mut seven, 1, 7, 15);
@@ -138,7 +116,7 @@ fn row_10() {
 
 // Row 11: sum of only 0^20 and only 1^20. The rows of letter 1 come after the 21 of letter 0.
 fn row_11() {
-    let mut out = [0u8; 1039];
+    let mut out = [0u8; 143];
     let mut zeros = [0u8; 183];
     let mut ones = [0u8; 183];
     power(&mut zeros, 2, 20, 15);
@@ -147,16 +125,11 @@ fn row_11() {
     show::written(operations::sum(&zeros, &ones, &mut out));
 }
 
-// Rows 8, 9, 12 and 13.
-fn other_rows() {
-    let mut out = [0u8; 1039];
-    let mut short = [0u8; 30];
-    io::write_all(1, b"row 8: ");
-    show::written(operations::sum(&NOTHING, &NOTHING_OF_TWO, &mut out));
-    io::write_all(1, b"row 9: ");
-    show::tested(testing::test(&X, b"\x00\x02"));
+// Row 12: 30 bytes for a 31-byte record. Row 13: number 6.
+fn rows_12_and_13() {
+    let mut out = [0u8; 30];
     io::write_all(1, b"row 12: ");
-    show::minimised(minimal::minimal(&X, &mut short));
+    show::minimised(minimal::minimal(&X, &mut out));
     io::write_all(1, b"row 13: ");
     show::written(catalogue::give(6, &mut out));
 }
@@ -165,8 +138,9 @@ fn main() {
     sample_9();
     sample_10();
     sample_10_meet();
-    rows_of_a_record();
-    other_rows();
+    rows_1_to_7();
+    rows_8_and_9();
     row_10();
     row_11();
+    rows_12_and_13();
 }
