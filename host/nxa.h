@@ -13,7 +13,8 @@
  * What the host owes:
  *   - every pointer is valid and not null, also where its length is 0;
  *   - as many bytes as the length says can be read there, and in a lent buffer written;
- *   - a lent buffer overlaps no other slice of the same call, and nobody else touches it during the call.
+ *   - a lent buffer overlaps no other slice of the same call, and nobody else touches it during the call;
+ *   - the thread that calls has a stack of NXA_STACK bytes or more.
  * The services keep nothing between calls, allocate nothing and may run at the same time in several threads.
  */
 #ifndef NXA_H
@@ -32,6 +33,10 @@ extern "C" {
 #define NXA_RECORD_MAX 1039  /* bytes of the longest record, NXA_RECORD_LENGTH(NXA_STATES_MAX, NXA_LETTERS_MAX) */
 #define NXA_WORD_MAX 63      /* letters of the longest word that a comparison writes */
 #define NXA_CATALOGUE_LAST 5 /* the catalogue's last number */
+
+/* Bytes of stack that are enough in all for a thread that calls any service. No service calls itself, so each has a deepest point; the
+ * deepest was measured below 30 KiB. The rest is a margin for the thread's own data, its callers and a signal's handler. */
+#define NXA_STACK 65536
 
 /* The bytes of a record of n states over a letters. */
 #define NXA_RECORD_LENGTH(n, a) (15 + 4 * (size_t)(a) * (size_t)(n))
