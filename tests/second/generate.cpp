@@ -79,6 +79,8 @@ Bytes record(Chance& chance)
     return write_record(machine(chance, states, letter_count(chance)));
 }
 
+// Where a call would draw twice among its arguments, one draw is made before it: the order of arguments is the compiler's own, and a
+// seed must mean the same to each.
 namespace {
 
 void flip(Chance& chance, Bytes& bytes, std::size_t from)
@@ -109,14 +111,16 @@ void set(Bytes& bytes, std::size_t at, std::size_t value)
 Bytes damaged(Chance& chance, Bytes record)
 {
     const std::size_t size = record.size();
-    switch (chance.below(12)) {
+    const std::size_t fault = chance.below(12);
+    const std::size_t value = fault == 6 ? chance.below(4) : fault == 4 || fault == 5 ? chance.next() : 0;
+    switch (fault) {
     case 0: flip(chance, record, 0); break;
     case 1: flip(chance, record, 7); break;
     case 2: record.resize(chance.between(0, size)); break;
     case 3: record.resize(size - std::min(size, chance.between(1, 4))); break;
-    case 4: record.resize(size + chance.between(1, 20), static_cast<std::uint8_t>(chance.next())); break;
-    case 5: set(record, chance.below(3), chance.next()); break;
-    case 6: set(record, chance.between(3, 4), chance.below(4)); break;
+    case 4: record.resize(size + chance.between(1, 20), static_cast<std::uint8_t>(value)); break;
+    case 5: set(record, chance.below(3), value); break;
+    case 6: set(record, chance.between(3, 4), value); break;
     case 7: set(record, 5, chance.one_in(2) ? 33 : chance.next()); break;
     case 8: set(record, 6, chance.one_in(2) ? 9 * chance.below(2) : chance.next()); break;
     case 9: record.resize(std::min<std::size_t>(size, chance.between(6, 8))); break;
@@ -225,7 +229,8 @@ Pair meeting_pair(Chance& chance)
 Bytes script(Chance& chance)
 {
     const std::size_t most = chance.one_in(4) ? most_states : 6;
-    const Machine key = machine(chance, chance.between(0, most), letter_count(chance));
+    const std::size_t letters = letter_count(chance);
+    const Machine key = machine(chance, chance.between(0, most), letters);
     Bytes whole = write_record(key);
     if (chance.one_in(10)) {
         whole = damaged(chance, std::move(whole));

@@ -232,11 +232,13 @@ Machine machine(Chance& chance, std::size_t states, std::size_t letters)
         return states == 0 ? blank_machine(0, letters) : only_word(word(chance, states - 1, letters), letters);
     case 7: {
         const std::size_t part = chance.between(0, states);
-        return direct_sum(machine(chance, part, letters), machine(chance, states - part, letters));
+        const Machine rest = machine(chance, states - part, letters);
+        return direct_sum(machine(chance, part, letters), rest);
     }
     case 8: {
         const std::size_t chain = chance.between(0, states);
-        return delayed(word(chance, chain, letters), machine(chance, states - chain, letters));
+        const Machine rest = machine(chance, states - chain, letters);
+        return delayed(word(chance, chain, letters), rest);
     }
     case 9: {   // twice the same machine: every count is even
         const Machine half = machine(chance, states / 2, letters);
