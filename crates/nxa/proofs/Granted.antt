@@ -21,6 +21,7 @@ use Rattle.minimal.specs.declared.Minimised.{Minimised}
 use Rattle.minimal.specs.declared.Minimised.the-variants.{Done}
 use Rattle.nxa.specs.declared.Reply.{Reply}
 use Rattle.catalogue.specs.Entries.{last, recordOf, catalogueOf}
+use Rattle.marking.specs.Marking.{markLine, markOutcome}
 use Rattle.nxa.specs.Reply.{ofChecked, ofWritten, ofMinimised}
 
 -- ---- the record check
@@ -147,6 +148,10 @@ pub written-granted : (o : Outcome) (w : Written) (r : Reply) → Reasoned o →
 written-granted o w r h answer told e =
     let t : r ≡ ofWritten (answerOf o) = told ∙ ap ofWritten answer in
     answer ∙ written-done o h (sym (ap (λ x. x .number) t) ∙ e) ∙ ap (λ x. Wrote (x .length)) (sym t)
+
+pub mark-reasoned : (s : List ℕ) (index room : ℕ) → Reasoned (markOutcome s index room)
+unfolding markOutcome
+mark-reasoned s index room = fit-reasoned room (markLine s index)
 
 pub catalogue-reasoned : (number room : ℕ) → Reasoned (catalogueOf number room)
 unfolding catalogueOf

@@ -19,6 +19,8 @@ ghost use Rattle.compare.specs.Compare.{differenceOf, compareOutcome, acceptorO
 ghost use Rattle.compare.specs.declared.Side.{Side};
 ghost use Rattle.operations.specs.Operations.{sumOutcome, complementOutcome, mirrorOutcome, MinimalRecord, Operands, Limits};
 ghost use Rattle.intersection.specs.Meet.{maxProduct, meetOutcome, DimensionProduct, Small};
+ghost use Rattle.marking.specs.Marking.{maxScript, markOutcome};
+ghost use Rattle.marking.specs.Told.{Told};
 ghost use Rattle.catalogue.specs.Words.{wordsOf};
 ghost use Rattle.catalogue.specs.Entries.{lettersAt, catalogueOf};
 ghost use Rattle.nxa.specs.Reply.{reply, refusal, ofChecked, ofWritten, ofTested, ofMinimised, sideNumber, ofCompared};
@@ -273,4 +275,17 @@ pub extern "C" fn nxa_catalogue(number: usize, out: &mut [u8]) -> Reply
     ensures minimal { λ r. ⌜ (r .number ≡ 0 → encode (lettersAt number) (minimalOf (lettersAt number) (automatonOf (take (r .length) (now (out .exit))))) ≡ take (r .length) (now (out .exit))) ⌝ }
 {
     of_written(catalogue::give(number, out))
+}
+
+// Writes the line of a script's record by its index, or no bytes where marking ends before it; it refuses only with 12.
+// `told`: where number is 0, the first `length` bytes of the buffer tell of all words what 01 asks. The key's line has the dimension of
+// its language. An answer's line says `same` exactly when the key accepts the same words; otherwise its word is the first in shortlex
+// order that just one of the two accepts, the one named accepts it, and the dimension is the answer's own.
+#[no_mangle]
+pub extern "C" fn nxa_mark(script: &[u8], index: usize, out: &mut [u8]) -> Reply
+    ensures reply { λ r. ⌜ r ≡ ofWritten (answerOf (markOutcome (now (script .entry)) index (length (now (out .entry))))) ⌝ }
+    ensures buffer { λ _. ⌜ now (out .exit) ≡ bufferOf (markOutcome (now (script .entry)) index (length (now (out .entry)))) (now (out .entry)) ⌝ }
+    ensures told { λ r. ⌜ (length (now (script .entry)) ≤ maxScript → r .number ≡ 0 → Told (now (script .entry)) index (take (r .length) (now (out .exit)))) ⌝ }
+{
+    of_written(marking::mark(script, index, out))
 }
