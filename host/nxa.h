@@ -33,6 +33,8 @@ extern "C" {
 #define NXA_RECORD_MAX 1039  /* bytes of the longest record, NXA_RECORD_LENGTH(NXA_STATES_MAX, NXA_LETTERS_MAX) */
 #define NXA_WORD_MAX 63      /* letters of the longest word that a comparison writes */
 #define NXA_CATALOGUE_LAST 5 /* the catalogue's last number */
+#define NXA_SCRIPT_MAX 65536 /* bytes of the longest script that is marked */
+#define NXA_LINE_MAX 107     /* bytes of the longest line of a marking, its end included */
 
 /* Bytes of stack that are enough in all for a thread that calls any service. No service calls itself, so each has a deepest point; the
  * deepest was measured below 30 KiB. The rest is a margin for the thread's own data, its callers and a signal's handler. */
@@ -197,6 +199,28 @@ nxa_reply nxa_mirror(const uint8_t *record, size_t record_len, uint8_t *out, siz
  *   nxa_reply r = nxa_catalogue(4, x, sizeof x);
  */
 nxa_reply nxa_catalogue(size_t number, uint8_t *out, size_t out_len);
+
+/* Marks one record of a script: a key record and then answer records, end to end, NXA_SCRIPT_MAX bytes at most. The key has index 0.
+ *
+ * Reads:    the script.
+ * Writes:   the line of the record, its end 0A included, length bytes; no bytes where marking ends before that record.
+ *             0 key dim 2                                  the key, and the dimension of its language
+ *             1 same dim 2                                 an answer that accepts exactly the key's words
+ *             2 differ dim 1 word 00 accepted-by answer    the first word that tells the two apart, `-` for the empty word
+ *             3 refused 7 15                               a record's own refusal, number and place
+ *             too long                                     line 0 of a longer script, and its only one
+ *           Marking ends with the last record, after a refusal 1 to 6, and after any refusal of the key; after 7 or 8 of an answer it
+ *           goes on. A script of no bytes has the line `0 refused 1 0`.
+ * Granted:  length is that of the line, 0 where there is none; value 0.
+ * Refused:  12, record 0, place the bytes needed. NXA_LINE_MAX bytes are always enough.
+ *
+ * Each call walks the script up to the record asked for. To mark a whole script, ask for index 0, 1, 2 and so on until length is 0.
+ *
+ *   uint8_t line[NXA_LINE_MAX];
+ *   size_t i;
+ *   for (i = 0; (r = nxa_mark(script, count, i, line, sizeof line)).length > 0; i++) fwrite(line, 1, r.length, stdout);
+ */
+nxa_reply nxa_mark(const uint8_t *script, size_t script_len, size_t index, uint8_t *out, size_t out_len);
 
 #ifdef __cplusplus
 }

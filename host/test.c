@@ -208,6 +208,7 @@ int main(void)
     test_pairs();
     test_operations();
     test_catalogue();
+    test_mark();
     printf("host: %d checks, %d failed\n", checks, failures);
     return failures != 0;
 }

@@ -161,9 +161,10 @@ static inline record power(unsigned length)
     return power_of(0, length, 1);
 }
 
-/* The tests of the services on two records, of the operations, and of the catalogue. */
+/* The tests of the services on two records, of the operations, of the catalogue, and of the marking. */
 void test_pairs(void);
 void test_operations(void);
 void test_catalogue(void);
+void test_mark(void);
 
 #endif
