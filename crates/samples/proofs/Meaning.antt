@@ -4,6 +4,7 @@ use mathlib.Core.Bool.{true, cond}
 use mathlib.Core.List.{List, [], _∷_}
 use Prim.Native.Nat.{ℕ, _<_}
 use lib.Dec.{eqb}
+use lib.ListN.{length}
 use borrow.Author.Tests.{eqb-true, leb-true, not-true}
 use Rattle.automata.specs.Automaton.{Automaton, accepts, sumBelow, pathsFrom}
 use Rattle.automata.specs.Word.{Over}
@@ -51,7 +52,7 @@ task-words (meet bs cs) a w ow = sym (accepts-meet (automatonOf bs) (automatonOf
 task-words (inverse bs) a w ow = sym (accepts-complement (automatonOf bs) w)
 task-words (mirror bs) a w ow = sym (accepts-mirror (automatonOf bs) w)
 
-module _ (t : Task) (r : List ℕ) (d : ℕ) (p : Passed (tests (gives t r d))) where
+module _ (t : Task) (r : List ℕ) (n d : ℕ) (p : Passed (tests (gives t r n d))) where
   pub formed : WellFormed r
   formed = good-true (checkOf r) (p .1 .0)
 
@@ -78,8 +79,9 @@ module _ (t : Task) (r : List ℕ) (d : ℕ) (p : Passed (tests (gives t r d))) 
       let two : Minimal (lettersFor t) (languageOf r) (automatonOf r) (m .0) = subst (λ a. Minimal a (languageOf r) (automatonOf r) (m .0)) over one in
       (m .0, minimal-same (lettersFor t) (languageOf r) (languageFor t) (automatonOf r) (m .0) (λ w ow. sym (result w ow)) two)
 
-  gives-holds : Gives t r d
+  gives-holds : Gives t r n d
   gives-holds = record {
+    size = eqb-true (length r) n (p .1 .1 .1 .1 .1 .1 .0);
     formed = formed;
     letters = over;
     words = result;
@@ -99,7 +101,7 @@ holds (paths bs k) p = λ w ow.
 holds (speaks bs s) p = λ w ow.
     machine-words s (lettersOf bs) (p .1 .0) (leb-true (lettersOf bs) (lettersIn s) (p .1 .1 .0)) w ow
     ∙ difference-none (lettersOf bs) (machine s) (automatonOf bs) (none-true (firstDifference (lettersOf bs) (machine s) (automatonOf bs)) (p .1 .1 .1 .0)) w ow
-holds (gives t r d) p = gives-holds t r d p
+holds (gives t r n d) p = gives-holds t r n d p
 holds (differ bs cs w s) p = (
   difference-some (lettersOf bs) (automatonOf bs) (automatonOf cs) w (word-true w (firstDifference (lettersOf bs) (automatonOf bs) (automatonOf cs)) (p .1 .0)),
   p .1 .1 .0,

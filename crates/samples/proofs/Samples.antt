@@ -1,4 +1,4 @@
--- The table holds, and so do the facts of the services that it comes to: one computed test, and one law for each of the two.
+-- The table holds, and so do the facts on the services that it comes to: one computed test, and one law for each of the two.
 use mathlib.Core.Path.{_≡_}
 use mathlib.Core.Bool.{true}
 use mathlib.Core.List.{List, [], _∷_}
@@ -7,7 +7,7 @@ use Rattle.samples.specs.Claims.{Claim, Holds}
 use Rattle.samples.specs.Table.{samples, Every}
 use Rattle.samples.specs.Answers.{Returned}
 use Rattle.samples.proofs.Data.{Passed, every, every-true}
-use Rattle.samples.proofs.Test.{tests, passing, allPassing, table-passes}
+use Rattle.samples.proofs.Test.{tests, passing, table-passes}
 use Rattle.samples.proofs.Meaning.{holds}
 use Rattle.samples.proofs.Services.{returned}
 
@@ -17,9 +17,9 @@ module _ (P : Claim → Type 0) (law : (c : Claim) → Passed (tests c) → P c)
   each [] e = tt
   each (c ∷ cs) e = let t = and-parts (every (tests c)) (passing cs) e in (law c (every-true (tests c) (t .0)), each cs (t .1))
 
-  all : (ss : List (List Claim)) → allPassing ss ≡ true → Every (Every P) ss
+  all : (ss : List (List Claim)) → Every (λ s. passing s ≡ true) ss → Every (Every P) ss
   all [] e = tt
-  all (s ∷ ss) e = let t = and-parts (passing s) (allPassing ss) e in (each s (t .0), all ss (t .1))
+  all (s ∷ ss) e = (each s (e .0), all ss (e .1))
 
 pub samples-hold : Every (Every Holds) samples
 samples-hold = all Holds holds samples table-passes

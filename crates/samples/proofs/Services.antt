@@ -52,47 +52,47 @@ tested bs w b e f h = rw (e, f, h)
 
 -- ---- the services that write a record
 
-module _ (t : Task) (r : List ℕ) (d : ℕ) (p : Passed (tests (gives t r d))) where
+module _ (t : Task) (r : List ℕ) (n d : ℕ) (p : Passed (tests (gives t r n d))) where
   abbrev a : ℕ
   a = lettersFor t
 
   dimension : dimensionOf a (automaton t) ≡ d
   dimension =
-      dimension-same a (automaton t) (automatonOf r) (same t r d p)
-      ∙ ap (λ x. dimensionOf x (automatonOf r)) (sym (over t r d p))
-      ∙ sym (minimal-record r (formed t r d p) .form .2)
-      ∙ ap statesOf (own t r d p)
-      ∙ states t r d p
+      dimension-same a (automaton t) (automatonOf r) (same t r n d p)
+      ∙ ap (λ x. dimensionOf x (automatonOf r)) (sym (over t r n d p))
+      ∙ sym (minimal-record r (formed t r n d p) .form .2)
+      ∙ ap statesOf (own t r n d p)
+      ∙ states t r n d p
 
   minimal-bytes : encode a (minimalOf a (automaton t)) ≡ r
   unfolding minimalBytes
   minimal-bytes =
-      fields-encode a (minimalOf a (automaton t)) (minimalOf a (automatonOf r)) (same-fields a (automaton t) (automatonOf r) (same t r d p))
-      ∙ ap (λ x. encode x (minimalOf x (automatonOf r))) (sym (over t r d p))
-      ∙ own t r d p
+      fields-encode a (minimalOf a (automaton t)) (minimalOf a (automatonOf r)) (same-fields a (automaton t) (automatonOf r) (same t r n d p))
+      ∙ ap (λ x. encode x (minimalOf x (automatonOf r))) (sym (over t r n d p))
+      ∙ own t r n d p
 
   -- Row 11 passes.
   result : (room : ℕ) → resultOf a (automaton t) room ≡ fit room r
   unfolding resultOf
   result room =
       let e : ℕ = dimensionOf a (automaton t) in
-      if-high maxStates e (refused 11 0 e) (fit room (encode a (minimalOf a (automaton t)))) (omega (arith, dimension, states t r d p, good-check r (formed t r d p) .front .states))
+      if-high maxStates e (refused 11 0 e) (fit room (encode a (minimalOf a (automaton t)))) (omega (arith, dimension, states t r n d p, good-check r (formed t r n d p) .front .states))
       ∙ ap (fit room) minimal-bytes
 
 -- The checks pass, for meet row 10 too.
-outcome : (t : Task) (r : List ℕ) (d : ℕ) → Passed (tests (gives t r d)) → (room : ℕ) → outcomeOf t room ≡ fit room r
+outcome : (t : Task) (r : List ℕ) (n d : ℕ) → Passed (tests (gives t r n d)) → (room : ℕ) → outcomeOf t room ≡ fit room r
 unfolding minimalBytes minimalOutcome sumOutcome meetOutcome complementOutcome mirrorOutcome
-outcome (minimal bs) r d p room = ap (λ c. checked c 1 (fit room (minimalBytes bs))) (good-true (checkOf bs) (p .0)) ∙ ap (fit room) (minimal-bytes (minimal bs) r d p)
-outcome (sum bs cs) r d p room = ap (λ c. afterPair c (resultOf (lettersOf bs) (automaton (sum bs cs)) room)) (both-true (pairOf bs cs) (p .0)) ∙ result (sum bs cs) r d p room
-outcome (meet bs cs) r d p room =
+outcome (minimal bs) r n d p room = ap (λ c. checked c 1 (fit room (minimalBytes bs))) (good-true (checkOf bs) (p .0)) ∙ ap (fit room) (minimal-bytes (minimal bs) r n d p)
+outcome (sum bs cs) r n d p room = ap (λ c. afterPair c (resultOf (lettersOf bs) (automaton (sum bs cs)) room)) (both-true (pairOf bs cs) (p .0)) ∙ result (sum bs cs) r n d p room
+outcome (meet bs cs) r n d p room =
     let e : ℕ = dimensionOf (lettersOf bs) (automatonOf bs) * dimensionOf (lettersOf bs) (automatonOf cs) in
     let rest : Outcome = resultOf (lettersOf bs) (automaton (meet bs cs)) room in
     let t = and-parts (both (pairOf bs cs)) (leb e maxProduct) (p .0) in
     ap (λ c. afterPair c (crossing e rest)) (both-true (pairOf bs cs) (t .0))
     ∙ if-high maxProduct e (refused 10 0 e) rest (leb-true e maxProduct (t .1))
-    ∙ result (meet bs cs) r d p room
-outcome (inverse bs) r d p room = ap (λ c. checked c 1 (resultOf (lettersOf bs) (automaton (inverse bs)) room)) (good-true (checkOf bs) (p .0)) ∙ result (inverse bs) r d p room
-outcome (mirror bs) r d p room = ap (λ c. checked c 1 (resultOf (lettersOf bs) (automaton (mirror bs)) room)) (good-true (checkOf bs) (p .0)) ∙ result (mirror bs) r d p room
+    ∙ result (meet bs cs) r n d p room
+outcome (inverse bs) r n d p room = ap (λ c. checked c 1 (resultOf (lettersOf bs) (automaton (inverse bs)) room)) (good-true (checkOf bs) (p .0)) ∙ result (inverse bs) r n d p room
+outcome (mirror bs) r n d p room = ap (λ c. checked c 1 (resultOf (lettersOf bs) (automaton (mirror bs)) room)) (good-true (checkOf bs) (p .0)) ∙ result (mirror bs) r n d p room
 
 -- ---- the comparison
 
@@ -124,5 +124,5 @@ returned (accepted bs w) p = tested bs w true (good-true (checkOf bs) (p .0)) (g
 returned (rejected bs w) p = tested bs w false (good-true (checkOf bs) (p .0)) (good-true (foreignFrom (lettersOf bs) w 0) (p .1 .0)) (holds (rejected bs w) p)
 returned (paths bs k) p = λ w ow. tested bs w (odd k) (good-true (checkOf bs) (p .0)) (over-foreign (lettersOf bs) w 0 ow) (ap odd (holds (paths bs k) p w ow))
 returned (speaks bs s) p = λ w ow. tested bs w _ (good-true (checkOf bs) (p .0)) (over-foreign (lettersOf bs) w 0 ow) (sym (holds (speaks bs s) p w ow))
-returned (gives t r d) p = record { bytes = outcome t r d p; dimension = dimension t r d p }
+returned (gives t r n d) p = record { bytes = outcome t r n d p; dimension = dimension t r n d p }
 returned (differ bs cs w s) p = differs bs cs w s p

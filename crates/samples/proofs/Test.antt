@@ -4,6 +4,7 @@ use mathlib.Core.Bool.{Bool, true, not, _&&_, cond}
 use mathlib.Core.List.{List, [], _∷_}
 use Prim.Native.Nat.{ℕ, _*_}
 use lib.Dec.{eqb, leb}
+use lib.ListN.{length}
 use Rattle.automata.specs.Automaton.{Automaton, accepts, sumBelow}
 use Rattle.automata.specs.MinimalOf.{minimalOf, basisWords, dimensionOf}
 use Rattle.automata.specs.FirstDifference.{firstDifference}
@@ -16,7 +17,7 @@ use Rattle.compare.specs.Compare.{acceptorOf}
 use Rattle.intersection.specs.Meet.{maxProduct}
 use Rattle.catalogue.specs.Entries.{entryOf, lettersAt, recordOf}
 use Rattle.samples.specs.Claims.{Task, minimal, sum, meet, inverse, mirror, lettersFor, Claim, accepted, rejected, paths, speaks, gives, differ}
-use Rattle.samples.specs.Table.{x12, x, noStates, oneState, twoPaths, zeroStar, oneStar, cycle, starSum, firstOne, samples}
+use Rattle.samples.specs.Table.{x12, x, noStates, oneState, twoPaths, zeroStar, oneStar, cycle, starSum, firstOne, samples, Every}
 use Rattle.samples.specs.Answers.{automaton}
 use Rattle.samples.proofs.Data.{every, good, both, sameList, noWord, isWord, allBelow}
 use Rattle.samples.proofs.Names.{machine, lettersIn, known}
@@ -55,13 +56,14 @@ tests (speaks bs s) =
     ∷ leb (lettersOf bs) (lettersIn s)
     ∷ noWord (firstDifference (lettersOf bs) (machine s) (automatonOf bs))
     ∷ []
-tests (gives t r d) =
+tests (gives t r n d) =
     passes t
     ∷ good (checkOf r)
     ∷ eqb (lettersOf r) (lettersFor t)
     ∷ eqb (statesOf r) d
     ∷ sameList (minimalBytes r) r
     ∷ noWord (firstDifference (lettersFor t) (automaton t) (automatonOf r))
+    ∷ eqb (length r) n
     ∷ []
 tests (differ bs cs w s) =
     both (pairOf bs cs)
@@ -75,10 +77,7 @@ abbrev pub passing : List Claim → Bool
 passing [] = true
 passing (c ∷ cs) = every (tests c) && passing cs
 
-abbrev pub allPassing : List (List Claim) → Bool
-allPassing [] = true
-allPassing (s ∷ ss) = passing s && allPassing ss
-
-pub table-passes : allPassing samples ≡ true
+-- One computation for each sample.
+pub table-passes : Every (λ s. passing s ≡ true) samples
 unfolding samples x12 x noStates oneState twoPaths zeroStar oneStar cycle starSum firstOne recordOf entryOf lettersAt frontOf checkOf strayFrom pairOf number bytesOf allBytes encode minimalOf minimalBytes basisWords dimensionOf firstDifference foreignFrom
-table-passes = refl
+table-passes = (refl, (refl, (refl, (refl, (refl, (refl, (refl, (refl, tt))))))))

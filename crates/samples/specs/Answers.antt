@@ -1,9 +1,10 @@
 -- The claims read through the services' contracts: what each says of what a service returns and leaves in the lent buffer.
---   automaton t      the automaton that the service's outcome speaks of
---   outcomeOf t      what the service does with a buffer of so many bytes
---   Returned c       what the claim says of the services
---   Wrote r buf w exit       an answer w and a buffer at exit: the record r was written into buf, or row 12 refused it
---   Minimises r d buf w exit    the same of the minimal service, whose answer has the dimension d
+--   automaton t                  the automaton that the service's outcome speaks of
+--   outcomeOf t                  what the service does with a buffer of so many bytes
+--   Served t r d                 it writes the record r, or refuses by row 12; the minimal service returns the dimension d besides
+--   Returned c                   what the claim says of the services
+--   Wrote r buf w exit           of one call, with its answer w and the buffer at its end: the record r into buf, or row 12
+--   Minimises r d buf w exit     the same of the minimal service
 use mathlib.Core.Path.{_≡_}
 use mathlib.Core.Bool.{Bool, cond}
 use mathlib.Core.List.{List}
@@ -42,7 +43,6 @@ outcomeOf (meet bs cs) = meetOutcome bs cs
 outcomeOf (inverse bs) = complementOutcome bs
 outcomeOf (mirror bs) = mirrorOutcome bs
 
--- The record r, or row 12; the minimal service returns the dimension besides.
 pub record Served (t : Task) (r : List ℕ) (d : ℕ) : Type 0 where
   pub bytes : (room : ℕ) → outcomeOf t room ≡ fit room r
   pub dimension : dimensionOf (lettersFor t) (automaton t) ≡ d
@@ -55,7 +55,7 @@ Returned (accepted bs w) = testOf bs w ≡ Accepted
 Returned (rejected bs w) = testOf bs w ≡ Rejected
 Returned (paths bs k) = (w : List ℕ) → Over (lettersOf bs) w → testOf bs w ≡ verdict (odd k)
 Returned (speaks bs s) = (w : List ℕ) → Over (lettersOf bs) w → testOf bs w ≡ verdict (wordsIn s w)
-Returned (gives t r d) = Served t r d
+Returned (gives t r n d) = Served t r d
 Returned (differ bs cs w s) =
     ((room : ℕ) → compareOutcome bs cs room ≡ fit room w)
     × ((room : ℕ) → length w ≤ room → comparedAs (differenceOf bs cs) (automatonOf bs) (compareOutcome bs cs room) ≡ Differs (length w) s)

@@ -1,14 +1,15 @@
 -- The claims of the samples as data, and what each of them means over all words.
 --   Task             what a service that writes a record is asked for
---   lettersFor t        how many letters its result has
---   languageFor t       the language of its result
---   Gives t r d      the record r is the minimal record of that language, and d its dimension
+--   lettersFor t     how many letters its result has
+--   languageFor t    the language of its result
+--   Gives t r n d    the record r, of n bytes, is the minimal record of that language, and d its dimension
 --   Claim            what a sample says
 --   Holds c          that it is so
 use mathlib.Core.Path.{_≡_}
 use mathlib.Core.Bool.{true, false}
 use mathlib.Core.List.{List}
 use Prim.Native.Nat.{ℕ}
+use lib.ListN.{length}
 use Rattle.automata.specs.Automaton.{pathCount}
 use Rattle.automata.specs.Word.{Over}
 use Rattle.automata.specs.Language.{Language, Same, symmetricDifference, intersection, complement, reversal}
@@ -24,6 +25,7 @@ pub data Task : Type 0 where
   minimal : List ℕ → Task
   sum : List ℕ → List ℕ → Task
   meet : List ℕ → List ℕ → Task
+  -- 01: complement.
   inverse : List ℕ → Task
   mirror : List ℕ → Task
 
@@ -41,7 +43,8 @@ languageFor (meet bs cs) = intersection (languageOf bs) (languageOf cs)
 languageFor (inverse bs) = complement (languageOf bs)
 languageFor (mirror bs) = reversal (languageOf bs)
 
-pub record Gives (t : Task) (r : List ℕ) (d : ℕ) : Type 0 where
+pub record Gives (t : Task) (r : List ℕ) (n d : ℕ) : Type 0 where
+  pub size : length r ≡ n
   pub formed : WellFormed r
   pub letters : lettersOf r ≡ lettersFor t
   pub words : Same (lettersFor t) (languageFor t) (languageOf r)
@@ -57,8 +60,8 @@ pub data Claim : Type 0 where
   paths : List ℕ → ℕ → Claim
   -- The record accepts exactly the words of the language.
   speaks : List ℕ → Named → Claim
-  -- The minimal record of the result, and its dimension.
-  gives : Task → List ℕ → ℕ → Claim
+  -- The minimal record of the result, its length and its dimension.
+  gives : Task → List ℕ → ℕ → ℕ → Claim
   -- The first word that just one of two records accepts, and the side that does.
   differ : List ℕ → List ℕ → List ℕ → Side → Claim
 
@@ -67,5 +70,5 @@ Holds (accepted bs w) = languageOf bs w ≡ true
 Holds (rejected bs w) = languageOf bs w ≡ false
 Holds (paths bs k) = (w : List ℕ) → Over (lettersOf bs) w → pathCount (automatonOf bs) w ≡ k
 Holds (speaks bs s) = Same (lettersOf bs) (wordsIn s) (languageOf bs)
-Holds (gives t r d) = Gives t r d
+Holds (gives t r n d) = Gives t r n d
 Holds (differ bs cs w s) = FirstDifference (lettersOf bs) (languageOf bs) (languageOf cs) w × (languageOf (acceptorOf s bs cs) w ≡ true)

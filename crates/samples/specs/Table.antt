@@ -3,11 +3,11 @@
 --   samples             what each starred sample says, in 01's order
 --   Every P xs          P holds of each member of a list
 use mathlib.Core.List.{List, [], _∷_, _++_}
-use Prim.Native.Nat.{ℕ, zero, suc}
+use Prim.Native.Nat.{ℕ, zero, suc, _+_, _*_}
 use Rattle.automata.specs.WordList.{joinBelow}
 use Rattle.record.specs.Bytes.{allBytes}
 use Rattle.record.specs.Record.{rowBytes, headOf}
-use Rattle.compare.specs.declared.Side.the-variants.{First, Second}
+use Rattle.compare.specs.declared.Side.the-variants.{Second}
 use Rattle.catalogue.specs.Entries.{recordOf}
 use Rattle.samples.specs.Languages.{Named, entry, beginning, star}
 use Rattle.samples.specs.Claims.{Task, minimal, sum, meet, inverse, mirror, Claim, accepted, rejected, paths, speaks, gives, differ}
@@ -76,9 +76,9 @@ languageOfX x =
 abbrev sample1 : List Claim
 sample1 = languageOfX x12 ++ languageOfX (recordOf 4)
 
--- 2. X 12's machine has minimal record n = 2, I = 1, F = 3, rows 2, 3, 1, 1.
+-- 2. X 12's machine has minimal record n = 2, I = 1, F = 3, rows 2, 3, 1, 1: 31 bytes.
 abbrev sample2 : List Claim
-sample2 = gives (minimal x12) x 2 ∷ []
+sample2 = gives (minimal x12) x 31 2 ∷ []
 
 -- 3. X against all words: 00.
 abbrev sample3 : List Claim
@@ -90,17 +90,17 @@ sample3 =
 
 -- 4. n = 0: dimension 0; its complement: 1. With each number of letters, 1 to 8.
 abbrev sample4 : List Claim
-sample4 = joinBelow 8 (λ k. gives (minimal (noStates (suc k))) (noStates (suc k)) 0 ∷ gives (inverse (noStates (suc k))) (oneState (suc k)) 1 ∷ [])
+sample4 = joinBelow 8 (λ k. gives (minimal (noStates (suc k))) (noStates (suc k)) 15 0 ∷ gives (inverse (noStates (suc k))) (oneState (suc k)) (19 + 4 * k) 1 ∷ [])
 
 -- 5. One letter, n = 2, I = F = 3, rows 1, 2: two paths each time, nothing accepted, dimension 0.
 abbrev sample5 : List Claim
-sample5 = paths twoPaths 2 ∷ speaks twoPaths (entry 0) ∷ gives (minimal twoPaths) (noStates 1) 0 ∷ []
+sample5 = paths twoPaths 2 ∷ speaks twoPaths (entry 0) ∷ gives (minimal twoPaths) (noStates 1) 15 0 ∷ []
 
 -- 6. Sum of 0* and 1* over two letters: dimension 2. Their meet: the empty word only, 1.
 abbrev sample6 : List Claim
 sample6 =
-    gives (sum zeroStar oneStar) starSum 2
-    ∷ gives (meet zeroStar oneStar) (recordOf 2) 1
+    gives (sum zeroStar oneStar) starSum 31 2
+    ∷ gives (meet zeroStar oneStar) (recordOf 2) 23 1
     ∷ speaks (recordOf 2) (entry 2)
     ∷ speaks zeroStar (star 0)
     ∷ speaks oneStar (star 1)
@@ -108,11 +108,11 @@ sample6 =
 
 -- 7. The 7-state cycle for catalogue 5: dimension 3.
 abbrev sample7 : List Claim
-sample7 = gives (minimal cycle) (recordOf 5) 3 ∷ speaks cycle (entry 5) ∷ []
+sample7 = gives (minimal cycle) (recordOf 5) 27 3 ∷ speaks cycle (entry 5) ∷ []
 
 -- 8. Words ending in 1, mirrored: words beginning with 1, dimension 2.
 abbrev sample8 : List Claim
-sample8 = gives (mirror (recordOf 3)) firstOne 2 ∷ speaks firstOne beginning ∷ speaks (recordOf 3) (entry 3) ∷ []
+sample8 = gives (mirror (recordOf 3)) firstOne 31 2 ∷ speaks firstOne beginning ∷ speaks (recordOf 3) (entry 3) ∷ []
 
 unfoldable pub samples : List (List Claim)
 samples = sample1 ∷ sample2 ∷ sample3 ∷ sample4 ∷ sample5 ∷ sample6 ∷ sample7 ∷ sample8 ∷ []

@@ -1,5 +1,6 @@
 // Runs the samples without a star, and the sample of each row of the refusal table, through the services: a line for each.
 // What must come out is in the file `stdout`, as the scope has it.
+mod ask;
 mod make;
 mod show;
 
@@ -20,55 +21,42 @@ fn sample_9() {
     let mut only = [0u8; 143];
     let mut out = [0u8; 143];
     power(&mut only, 1, 31, 15);
-    io::write_all(1, b"9: minimal ");
-    show::minimised(minimal::minimal(&only, &mut out));
-    io::write_all(1, b"9: against nothing ");
-    show::compared(compare::compare(&only, &NOTHING, &mut out));
-    io::write_all(1, b"9: complement ");
-    show::written(operations::complement(&only, &mut out));
+    ask::minimal(b"9: minimal ", &only, &mut out);
+    ask::compare(b"9: against nothing ", &only, &NOTHING);
+    ask::complement(b"9: complement ", &only);
 }
 
 // 10. n = 32 passes, 33 is 4; a = 8 passes, 9 is 5.
 fn sample_10() {
-    let mut out = [0u8; 1039];
     let mut b = [0u8; 143];
     head(&mut b, 32, 1);
-    io::write_all(1, b"10: n = 32 ");
-    show::written(record::rewrite(&b, &mut out));
+    ask::rewrite(b"10: n = 32 ", &b);
     let mut c = [0u8; 147];
     head(&mut c, 33, 1);
-    io::write_all(1, b"10: n = 33 ");
-    show::written(record::rewrite(&c, &mut out));
+    ask::rewrite(b"10: n = 33 ", &c);
     let mut d = [0u8; 1039];
     head(&mut d, 32, 8);
-    io::write_all(1, b"10: n = 32, a = 8 ");
-    show::written(record::rewrite(&d, &mut out));
+    ask::rewrite(b"10: n = 32, a = 8 ", &d);
     let mut e = [0u8; 51];
     head(&mut e, 1, 9);
-    io::write_all(1, b"10: a = 9 ");
-    show::written(record::rewrite(&e, &mut out));
+    ask::rewrite(b"10: a = 9 ", &e);
 }
 
 // 10. Only 0^7 met with only 0^7 has product 64 and passes.
 fn sample_10_meet() {
-    let mut out = [0u8; 143];
     let mut seven = [0u8; 47];
     power(&mut seven, 1, 7, 15);
-    io::write_all(1, b"10: only 0^7 met with itself ");
-    show::written(intersection::meet(&seven, &seven, &mut out));
+    ask::meet(b"10: only 0^7 met with itself ", &seven, &seven);
 }
 
 // A record that rows 1 to 7 refuse: by itself, and as the second of two.
 fn refuse(row: &[u8], bytes: &[u8]) {
-    let mut out = [0u8; 143];
-    io::write_all(1, row);
-    show::written(record::rewrite(bytes, &mut out));
-    io::write_all(1, row);
-    show::compared(compare::compare(&X, bytes, &mut out));
+    ask::rewrite(row, bytes);
+    ask::compare(row, &X, bytes);
 }
 
-// Rows 1 to 7, each with its sample.
-fn rows_1_to_7() {
+// The samples of rows 1 to 7.
+fn rows_1_to_3() {
     refuse(b"row 1: ", b"");
     refuse(
         b"row 2: ",
@@ -78,12 +66,18 @@ fn rows_1_to_7() {
         b"row 3: ",
         b"NXA\x02\x00\x00\x01\x00\x00\x00\x00\x00\x00\x00\x00",
     );
+}
+
+fn rows_4_and_5() {
     let mut many = [0u8; 147];
     head(&mut many, 33, 1);
     refuse(b"row 4: ", &many);
     let mut wide = [0u8; 51];
     head(&mut wide, 1, 9);
     refuse(b"row 5: ", &wide);
+}
+
+fn rows_6_and_7() {
     refuse(
         b"row 6: ",
         b"NXA\x01\x00\x00\x01\x00\x00\x00\x00\x00\x00\x00\x00\x00",
@@ -96,49 +90,42 @@ fn rows_1_to_7() {
 
 // Row 8: a = 1 and a = 2. Row 9: a = 2, word 0 2.
 fn rows_8_and_9() {
-    let mut out = [0u8; 143];
-    io::write_all(1, b"row 8: ");
-    show::written(operations::sum(&NOTHING, &NOTHING_OF_TWO, &mut out));
-    io::write_all(1, b"row 9: ");
-    show::tested(testing::test(&X, b"\x00\x02"));
+    ask::sum(b"row 8: ", &NOTHING, &NOTHING_OF_TWO);
+    ask::test(b"row 9: ", &X, b"\x00\x02");
 }
 
 // Row 10: only 0^8 with only 0^7.
 fn row_10() {
-    let mut out = [0u8; 143];
     let mut seven = [0u8; 47];
     let mut eight = [0u8; 51];
     power(&mut seven, 1, 7, 15);
     power(&mut eight, 1, 8, 15);
-    io::write_all(1, b"row 10: ");
-    show::written(intersection::meet(&eight, &seven, &mut out));
+    ask::meet(b"row 10: ", &eight, &seven);
 }
 
 // Row 11: sum of only 0^20 and only 1^20. The rows of letter 1 come after the 21 of letter 0.
 fn row_11() {
-    let mut out = [0u8; 143];
     let mut zeros = [0u8; 183];
     let mut ones = [0u8; 183];
     power(&mut zeros, 2, 20, 15);
     power(&mut ones, 2, 20, 99);
-    io::write_all(1, b"row 11: ");
-    show::written(operations::sum(&zeros, &ones, &mut out));
+    ask::sum(b"row 11: ", &zeros, &ones);
 }
 
 // Row 12: 30 bytes for a 31-byte record. Row 13: number 6.
 fn rows_12_and_13() {
     let mut out = [0u8; 30];
-    io::write_all(1, b"row 12: ");
-    show::minimised(minimal::minimal(&X, &mut out));
-    io::write_all(1, b"row 13: ");
-    show::written(catalogue::give(6, &mut out));
+    ask::minimal(b"row 12: ", &X, &mut out);
+    ask::catalogue(b"row 13: ", 6);
 }
 
 fn main() {
     sample_9();
     sample_10();
     sample_10_meet();
-    rows_1_to_7();
+    rows_1_to_3();
+    rows_4_and_5();
+    rows_6_and_7();
     rows_8_and_9();
     row_10();
     row_11();
