@@ -3,7 +3,7 @@ use mathlib.Core.Path.{_≡_, refl, sym, ap, ap₂, _∙_}
 use mathlib.Core.Bool.{Bool, true, false, false≢true}
 use mathlib.Core.List.{List, [], _∷_}
 use mathlib.Core.Option.{some}
-use Prim.Native.Nat.{ℕ, _+_, _*_, _≤_}
+use Prim.Native.Nat.{ℕ, _+_, _*_}
 use native.Mathlib.Omega.{arith}
 use lib.Dec.{leb}
 use lib.ListN.{length}
@@ -34,7 +34,7 @@ use Rattle.compare.proofs.CompareLaws.{outcome-word}
 use Rattle.operations.specs.Operations.{resultOf, sumOutcome, complementOutcome, mirrorOutcome}
 use Rattle.intersection.specs.Meet.{maxProduct, crossing, meetOutcome}
 use Rattle.samples.specs.Claims.{Task, minimal, sum, meet, inverse, mirror, lettersFor, Claim, accepted, rejected, paths, speaks, gives, differ}
-use Rattle.samples.specs.Answers.{automaton, outcomeOf, Served, verdict, Returned}
+use Rattle.samples.specs.Answers.{automaton, outcomeOf, verdict, Returned}
 use Rattle.samples.proofs.Data.{Passed, good-true, both, both-true, word-true}
 use Rattle.samples.proofs.Test.{tests}
 use Rattle.samples.proofs.Meaning.{formed, over, states, own, same, holds}

@@ -9,8 +9,8 @@ use Rattle.record.specs.Bytes.{allBytes}
 use Rattle.record.specs.Record.{rowBytes, headOf}
 use Rattle.compare.specs.declared.Side.the-variants.{Second}
 use Rattle.catalogue.specs.Entries.{recordOf}
-use Rattle.samples.specs.Languages.{Named, entry, beginning, star}
-use Rattle.samples.specs.Claims.{Task, minimal, sum, meet, inverse, mirror, Claim, accepted, rejected, paths, speaks, gives, differ}
+use Rattle.samples.specs.Languages.{entry, beginning, star}
+use Rattle.samples.specs.Claims.{minimal, sum, meet, inverse, mirror, Claim, accepted, rejected, paths, speaks, gives, differ}
 
 -- ---- the records
 
