@@ -1,14 +1,16 @@
-/* A small host: reads a record from a file or from standard input and says what the desk finds.
+/* A small host: says what the desk finds of a record, of two records, or of a script. FILE - is standard input.
  *
- *   example [FILE [WORD..]]      FILE - is standard input; a WORD is written in digits, one per letter, the empty word as -
+ *   example [FILE [WORD..]]      a record: check, minimal record, operations, tests of words in digits, the empty word as -
+ *   example -c FIRST SECOND      two records: the same words, or the first word that tells them apart
+ *   example -m SCRIPT            a script: one line for each record
  */
 #include <stdio.h>
 #include <string.h>
 
 #include "nxa.h"
 
-/* One byte more than the longest record, so that a longer file is seen to be one. */
-#define READ_MAX (NXA_RECORD_MAX + 1)
+/* One byte more than the longest script, so that a longer file is seen to be one; no record is longer. */
+#define READ_MAX (NXA_SCRIPT_MAX + 1)
 
 static const char *const reasons[] = {
     "granted",
@@ -112,40 +114,94 @@ static int print_test(const uint8_t *record, size_t length, const char *text)
     return 0;
 }
 
-static int read_all(const char *name, uint8_t *bytes, size_t *length)
+/* What is read of a file. Static, since a script is large for a stack. */
+static struct input {
+    uint8_t bytes[READ_MAX];
+    size_t length;
+} first, second;
+
+static int read_all(const char *name, struct input *in)
 {
     FILE *file = strcmp(name, "-") == 0 ? stdin : fopen(name, "rb");
-    int failed;
-    if (file == NULL) {
+    int failed = file == NULL;
+    if (!failed) {
+        in->length = fread(in->bytes, 1, READ_MAX, file);
+        failed = ferror(file);
+        if (file != stdin) {
+            fclose(file);
+        }
+    }
+    if (failed) {
+        printf("%s cannot be read\n", name);
+    }
+    return failed;
+}
+
+/* The first word that just one of two records accepts, in digits. */
+static int print_comparison(void)
+{
+    uint8_t word[NXA_WORD_MAX];
+    const nxa_reply reply = nxa_compare(first.bytes, first.length, second.bytes, second.length, word, sizeof word);
+    size_t i;
+    if (refused("compare", reply)) {
         return 1;
     }
-    *length = fread(bytes, 1, READ_MAX, file);
-    failed = ferror(file);
-    if (file != stdin) {
-        fclose(file);
+    if (reply.value == 0) {
+        printf("compare: the same words\n");
+        return 0;
+    }
+    printf("compare: they differ at %s", reply.length == 0 ? "-" : "");
+    for (i = 0; i < reply.length; i++) {
+        printf("%d", word[i]);
+    }
+    printf(", accepted by the %s\n", reply.value == 1 ? "first" : "second");
+    return 0;
+}
+
+/* A line for each record of a script, until there is none. */
+static int print_marks(void)
+{
+    uint8_t line[NXA_LINE_MAX];
+    size_t index;
+    for (index = 0;; index++) {
+        const nxa_reply reply = nxa_mark(first.bytes, first.length, index, line, sizeof line);
+        if (refused("mark", reply)) {
+            return 1;
+        }
+        if (reply.length == 0) {
+            return 0;
+        }
+        fwrite(line, 1, reply.length, stdout);
+    }
+}
+
+static int print_all(int words, char **word)
+{
+    int failed, i;
+    if (refused("check", nxa_check(first.bytes, first.length))) {
+        return 1;
+    }
+    printf("check: well formed, %lu bytes\n", shown(first.length));
+    failed = print_minimal(first.bytes, first.length);
+    failed |= print_result("complement", nxa_complement, first.bytes, first.length);
+    failed |= print_result("mirror", nxa_mirror, first.bytes, first.length);
+    failed |= print_test(first.bytes, first.length, "-");
+    for (i = 0; i < words; i++) {
+        failed |= print_test(first.bytes, first.length, word[i]);
     }
     return failed;
 }
 
 int main(int argc, char **argv)
 {
-    uint8_t record[READ_MAX];
-    size_t length = 0;
-    int failed, i;
-    if (read_all(argc > 1 ? argv[1] : "-", record, &length)) {
-        printf("%s cannot be read\n", argc > 1 ? argv[1] : "standard input");
+    if (argc == 4 && strcmp(argv[1], "-c") == 0) {
+        return read_all(argv[2], &first) || read_all(argv[3], &second) ? 2 : print_comparison();
+    }
+    if (argc == 3 && strcmp(argv[1], "-m") == 0) {
+        return read_all(argv[2], &first) ? 2 : print_marks();
+    }
+    if (read_all(argc > 1 ? argv[1] : "-", &first)) {
         return 2;
     }
-    if (refused("check", nxa_check(record, length))) {
-        return 1;
-    }
-    printf("check: well formed, %lu bytes\n", shown(length));
-    failed = print_minimal(record, length);
-    failed |= print_result("complement", nxa_complement, record, length);
-    failed |= print_result("mirror", nxa_mirror, record, length);
-    failed |= print_test(record, length, "-");
-    for (i = 2; i < argc; i++) {
-        failed |= print_test(record, length, argv[i]);
-    }
-    return failed;
+    return print_all(argc > 2 ? argc - 2 : 0, argv + 2);
 }
