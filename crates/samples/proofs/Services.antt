@@ -81,7 +81,7 @@ module _ (t : Task) (r : List ℕ) (n d : ℕ) (p : Passed (tests (gives t r n d
 
 -- The checks pass, for meet row 10 too.
 outcome : (t : Task) (r : List ℕ) (n d : ℕ) → Passed (tests (gives t r n d)) → (room : ℕ) → outcomeOf t room ≡ fit room r
-unfolding minimalBytes minimalOutcome sumOutcome meetOutcome complementOutcome mirrorOutcome
+unfolding minimalBytes minimalOutcome sumOutcome meetOutcome unaryOutcome
 outcome (minimal bs) r n d p room = ap (λ c. checked c 1 (fit room (minimalBytes bs))) (good-true (checkOf bs) (p .0)) ∙ ap (fit room) (minimal-bytes (minimal bs) r n d p)
 outcome (sum bs cs) r n d p room = ap (λ c. afterPair c (resultOf (lettersOf bs) (automaton (sum bs cs)) room)) (both-true (pairOf bs cs) (p .0)) ∙ result (sum bs cs) r n d p room
 outcome (meet bs cs) r n d p room =

@@ -1,0 +1,69 @@
+#!/usr/bin/env python3
+"""Holds the documents against the tree: commands run and print what stands under them, links and files that are named exist.
+
+In a block headed ```console a line `$ COMMAND` is run in the repository's root by a shell, and what it prints on standard output must be the
+lines under it, where there are any. The gate's own command is not run, since it runs this. A link [..](PATH) and a path crate/specs/File in
+backquotes must name a file or folder. Ends with status 1 if anything is not as said.
+"""
+import pathlib
+import re
+import subprocess
+import sys
+
+ROOT = pathlib.Path(__file__).resolve().parent.parent
+DOCUMENTS = ["README.md", "host/README.md", "tests/README.md", "bench/README.md"] + [f"docs/{name}.md" for name in ("CLAIMS", "DECISIONS", "DESIGN", "MARKING", "PROVING", "TRUST")]
+GATE = "bash .ci/run"
+
+
+def blocks(text):
+    """Each command of the console blocks with the lines that stand under it."""
+    for body in re.findall(r"^```console\n(.*?)^```$", text, re.M | re.S):
+        for part in re.split(r"^\$ ", body, flags=re.M)[1:]:
+            command, _, printed = part.partition("\n")
+            yield command, printed
+
+
+def try_command(command, printed):
+    """What is wrong with one command, or nothing."""
+    if command == GATE:
+        return None
+    done = subprocess.run(command, shell=True, cwd=ROOT, stdin=subprocess.DEVNULL, capture_output=True, text=True, check=False)
+    if done.returncode != 0:
+        return f"ended with status {done.returncode}: {done.stderr.strip()[-300:]}"
+    if printed and done.stdout != printed:
+        return f"printed\n{done.stdout}where the document has\n{printed}"
+    return None
+
+
+def places(document, text):
+    """What links and backquotes name: files and folders."""
+    for link in re.findall(r"\]\(([^)#:]+)\)", text):
+        yield link, (document.parent / link)
+    for crate, name in re.findall(r"`(\w+)/specs/(\w+)`", text):
+        yield f"{crate}/specs/{name}", ROOT / "crates" / crate / "specs" / f"{name}.antt"
+    for name in re.findall(r"`((?:host|tests|bench|docs|examples)/[\w./]+)`", text):
+        yield name, ROOT / name
+
+
+def main():
+    wrong = commands = named = 0
+    for name in DOCUMENTS:
+        document = ROOT / name
+        text = document.read_text(encoding="utf-8")
+        for what, path in places(document, text):
+            named += 1
+            if not path.exists():
+                print(f"{name}: {what} is not there")
+                wrong += 1
+        for command, printed in blocks(text):
+            commands += 1
+            problem = try_command(command, printed)
+            if problem:
+                print(f"{name}: {command}: {problem}")
+                wrong += 1
+    print(f"documents: {commands} commands, {named} names, {wrong} not as said")
+    return 1 if wrong else 0
+
+
+if __name__ == "__main__":
+    sys.exit(main())
