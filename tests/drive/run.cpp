@@ -1,6 +1,8 @@
 // A run of requests: guarded bytes around every input and buffer, every field and byte compared.
 #include "run.hpp"
 
+#include <sanitizer/asan_interface.h>
+
 #include <algorithm>
 #include <cstdio>
 #include <cstdlib>
@@ -60,6 +62,17 @@ bool Guarded::holds(const Bytes& content) const
     return all_ == Guarded(content).all_;
 }
 
+void Guarded::fence_off()
+{
+    ASAN_POISON_MEMORY_REGION(all_.data(), margin);
+    ASAN_POISON_MEMORY_REGION(data() + size(), margin);
+}
+
+void Guarded::open_up()
+{
+    ASAN_UNPOISON_MEMORY_REGION(all_.data(), all_.size());
+}
+
 Bytes Answer::written() const
 {
     return Bytes(buffer.begin(), buffer.begin() + static_cast<std::ptrdiff_t>(reply.length));
@@ -114,7 +127,11 @@ Answer Run::put(Request request, Desk desk, Second expected)
         inputs.emplace_back(input);
     }
     Guarded lent(before);
+    std::for_each(inputs.begin(), inputs.end(), [](Guarded& input) { input.fence_off(); });
+    lent.fence_off();
     const Reply got = plain(desk(inputs, lent));
+    std::for_each(inputs.begin(), inputs.end(), [](Guarded& input) { input.open_up(); });
+    lent.open_up();
     Answer answer{{}, before};
     answer.reply = expected(answer.buffer);
     if (!equal(got, answer.reply)) {

@@ -25,6 +25,10 @@ public:
     std::size_t size() const { return all_.size() - 2 * margin; }
     bool holds(const Bytes& content) const;   // this content, and the bytes around it as they were
 
+    // With the address sanitizer, code that was compiled for it may not even read the bytes around while they are fenced off.
+    void fence_off();
+    void open_up();
+
 private:
     static constexpr std::size_t margin = 64;
     Bytes all_;
