@@ -5,7 +5,7 @@ use Prim.Native.Nat.{ℕ, _+_, _<_, _≤_, _^_}
 use native.Mathlib.Nat.{zero-add}
 use native.Mathlib.Omega.{arith}
 use lib.ListN.{length, take, drop, length-append}
-use lib.Seq.{sets, length-sets, take-at}
+use lib.Seq.{sets, length-sets, length-take-le, take-at}
 use Rattle.record.proofs.Stores.{sets-then, sets-front}
 use Rattle.text.specs.Text.{decimal, wordText}
 use Rattle.text.proofs.Decimal.{decimal-length}
@@ -34,6 +34,9 @@ begun-line {before} {line} {at} {text} b h = record {
 -- A line that has its text has it under another name.
 pub begins-as : {line : List ℕ} {n : ℕ} {text other : List ℕ} → text ≡ other → Begins line n text → Begins line n other
 begins-as e b = record { within = b .within; bytes = b .bytes ∙ e }
+
+pub begins-within : {line : List ℕ} {n : ℕ} {text : List ℕ} → Begins line n text → length text ≤ length line
+begins-within {line} {n} b = rw (← b .bytes, length-take-le n line (b .within)) (b .within)
 
 -- No bytes are the start of any line.
 pub begins-none : (line : List ℕ) → Begins line 0 []

@@ -8,7 +8,7 @@ ghost use Rattle.record.specs.Record.{WellFormed};
 ghost use Rattle.record.specs.Outcome.{fit, answerOf, bufferOf};
 ghost use Rattle.script.specs.Script.{partAt, afterPart};
 ghost use Rattle.marking.specs.Lines.{opening, refusedLine, dimLine, differLine, acceptedBy, longest, Begun, Begins};
-ghost use Rattle.marking.specs.Marking.{maxScript, dimensionIn, keyRecordLine, answerLine, keyPartLine, answerPartLine, lineAt, pastOf, placeOf, markOutcome};
+ghost use Rattle.marking.specs.Marking.{maxScript, dimensionIn, keyRecordLine, answerLine, keyPartLine, answerPartLine, lineAt, pastOf, placeOf, markLine, markOutcome};
 ghost use Rattle.marking.specs.Told.{Told};
 use compare::Compared;
 use compare::Side;
@@ -126,8 +126,8 @@ fn answer_line(line: &mut [u8], index: usize, key: &[u8], answer: &[u8]) -> usiz
             dim_line(line, index, b" same dim ", d)
         }
         Compared::Differs { length, side } => {
-            let d = dimension(answer);
-            differ_line(line, index, d, &word[..length], side)
+            let own = dimension(answer);
+            differ_line(line, index, own, &word[..length], side)
         }
         Compared::Refused {
             number,
@@ -156,18 +156,20 @@ fn key_end(script: &[u8]) -> usize
 pub fn past(script: &[u8], index: usize, at: usize) -> usize
     ensures { λ r. ⌜ r ≡ pastOf (now (script .entry)) index at ⌝ }
 {
-    let part = script::part_from(script, at);
-    let Part::Whole { start, next } = part else {
-        return script.len();
+    let end = script.len();
+    let Part::Whole { start, next } = script::part_from(script, at) else {
+        return end;
     };
     if index != 0 {
         return next;
     }
-    let c = record::check(&script[start..next]);
-    let Checked::Good = c else {
-        return script.len();
-    };
-    next
+    match record::check(&script[start..next]) {
+        Checked::Good => next,
+        Checked::Refused {
+            number: _,
+            place: _,
+        } => end,
+    }
 }
 
 // Where the record of an index stands; the script's end where marking ends before it.
@@ -234,6 +236,7 @@ fn part_line(line: &mut [u8], script: &[u8], index: usize, at: usize) -> usize
 pub fn line_at(script: &[u8], index: usize, at: usize, out: &mut [u8]) -> Written
     ensures answer { λ r. ⌜ r ≡ answerOf (fit (length (now (out .entry))) (lineAt (now (script .entry)) index at)) ⌝ }
     ensures buffer { λ _. ⌜ now (out .exit) ≡ bufferOf (fit (length (now (out .entry))) (lineAt (now (script .entry)) index at)) (now (out .entry)) ⌝ }
+    ensures room { λ _. ⌜ length (lineAt (now (script .entry)) index at) ≤ longest ⌝ }
 {
     let mut line = [0u8; LONGEST];
     let n = part_line(&mut line, script, index, at);
@@ -241,12 +244,14 @@ pub fn line_at(script: &[u8], index: usize, at: usize, out: &mut [u8]) -> Writte
 }
 
 // The marking service: writes the line of the record of an index, or no bytes where marking ends before it; it refuses only with 12.
+// `room`: a buffer of 160 bytes holds every line.
 // `told`: for each record of a script that is not too long, the line tells of all its words what 01 asks. The key's line has the
 // dimension of its language. An answer's line says `same` exactly when the key accepts the same words; otherwise its word is the
 // first in shortlex order that just one of the two accepts, the one named accepts it, and the dimension is the answer's own.
 pub fn mark(script: &[u8], index: usize, out: &mut [u8]) -> Written
     ensures answer { λ r. ⌜ r ≡ answerOf (markOutcome (now (script .entry)) index (length (now (out .entry)))) ⌝ }
     ensures buffer { λ _. ⌜ now (out .exit) ≡ bufferOf (markOutcome (now (script .entry)) index (length (now (out .entry)))) (now (out .entry)) ⌝ }
+    ensures room { λ _. ⌜ length (markLine (now (script .entry)) index) ≤ longest ⌝ }
     ensures told { λ r. ⌜ (length (now (script .entry)) ≤ maxScript → (n : ℕ) → r ≡ Written.Done n → Told (now (script .entry)) index (take n (now (out .exit)))) ⌝ }
 {
     let at = place(script, index);

@@ -55,7 +55,7 @@ enum-known-length : tie.Need-enum-known-length
 enum-known-length c = search needs
 
 dimension-requires-2 : tie.Need-dimension-requires-2
-dimension-requires-2 c κs = both-passed _ _ (found (c .before) .both) .1
+dimension-requires-2 c κs = let w = both-passed _ _ (found (c .before) .both) in search needs
 
 array-share-prefix-word : tie.Need-array-share-prefix-word
 array-share-prefix-word c = let f = found (c .before .before .before) in omega (arith, f .count, f .short)

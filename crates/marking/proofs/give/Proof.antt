@@ -13,33 +13,28 @@ use borrow.Author.Needs.{needs}
 use Rattle.marking.proofs.give.Statement.{statement}
 use Rattle.marking.proofs.give.Tie as tie
 
--- src/lib.rt:31:9
 returns : tie.Need-returns
 returns c =
     let a = c .before .before .before .args in
-    let e = fit-short (length (now (a .out))) (take (a .n) (now (a .line))) (length-take-le (a .n) (now (a .line)) (c .before .before .before .pre)) (c .if1 .taken) in
+    let e = fit-short (length (now (a .out))) (take (a .n) (now (a .line))) (length-take-le (a .n) (now (a .line)) (c .before .before .before .pre)) (omega arith) in
     (sym (ap answerOf e), sym (ap (λ o. bufferOf o (now (a .out))) e))
 
--- src/lib.rt:37:23
 slice-aggregate-put : tie.Need-slice-aggregate-put
 slice-aggregate-put c = let s = c .before .before .before .before .before in sym (length-take-le (s .args .n) (now (s .args .line)) (s .pre))
 
--- src/lib.rt:37:5
 put-requires : tie.Need-put-requires
 put-requires c κs = let s = c .before .before .before .before .before in rw (length-take-le (s .args .n) (now (s .args .line)) (s .pre)) (omega arith)
 
--- src/lib.rt:25:1
 same-length : tie.Need-same-length
 same-length c = search needs
 
--- src/lib.rt:25:1
 returns-2 : tie.Need-returns-2
 returns-2 c =
     let s = c .before .before .before .before .before .before .before .before in
     let a = s .args in
     let count = length-take-le (a .n) (now (a .line)) (s .pre) in
-    let e = fit-done (length (now (a .out))) (take (a .n) (now (a .line))) count (c .before .before .before .before .before .if1 .left) in
-    let room : length (take (a .n) (now (a .line))) ≤ length (now (a .out)) = rw count (c .before .before .before .before .before .if1 .left) in (
+    let e = fit-done (length (now (a .out))) (take (a .n) (now (a .line))) count (omega arith) in
+    let room : length (take (a .n) (now (a .line))) ≤ length (now (a .out)) = rw count (omega arith) in (
       ap Done (sym count) ∙ sym (ap answerOf e),
       c .before .before .put .ensures .1 ∙ sets-front (take (a .n) (now (a .line))) (now (a .out)) room ∙ sym (ap (λ o. bufferOf o (now (a .out))) e),
     )

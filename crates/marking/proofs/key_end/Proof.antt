@@ -7,33 +7,26 @@ use borrow.Author.Needs.{needs}
 use Rattle.marking.proofs.key_end.Statement.{statement}
 use Rattle.marking.proofs.key_end.Tie as tie
 
--- src/lib.rt:55:11
 part-from-requires : tie.Need-part-from-requires
 part-from-requires c κs = search needs
 
--- src/lib.rt:56:33
 enum-known-next : tie.Need-enum-known-next
 enum-known-next c = search needs
 
--- src/lib.rt:60:14
 enum-told : tie.Need-enum-told
 enum-told c = search needs
 
--- src/lib.rt:61:22
 enum-told-2 : tie.Need-enum-told-2
 enum-told-2 c = search needs
 
--- src/lib.rt:52:1
 returns : tie.Need-returns
 returns c =
     let e = sym (c .before .next .given .1) ∙ c .before .before .before .part-from .ensures in
     (ap (λ p. afterPart p 0) e, whole-stands _ _ _ _ (sym e) .within)
 
--- src/lib.rt:52:1
 returns-2 : tie.Need-returns-2
 returns-2 c = (ap (λ p. afterPart p 0) (sym (c .enum-told .given .1) ∙ c .before .before .part-from .ensures), omega arith)
 
--- src/lib.rt:52:1
 returns-3 : tie.Need-returns-3
 returns-3 c = (ap (λ p. afterPart p 0) (sym (c .enum-told2 .given .1) ∙ c .before .before .part-from .ensures), omega arith)
 

@@ -1,8 +1,10 @@
 -- `line_at`: the line that was built, given out.
 use mathlib.Core.Path.{ap, _∙_}
+use native.Mathlib.Omega.{arith}
 use denote.Ref.{now}
 use lib.ListN.{length}
 use Rattle.record.specs.Outcome.{answerOf, bufferOf, fit}
+use Rattle.marking.proofs.Building.{begins-within}
 use borrow.Author.Needs.{needs}
 use Rattle.marking.proofs.line_at.Statement.{statement}
 use Rattle.marking.proofs.line_at.Tie as tie
@@ -25,8 +27,14 @@ same-length c = search needs
 returns : tie.Need-returns
 returns c =
     let a = c .before .before .before .before .before .before .before .before .before .before .args in
-    let e = ap (fit (length (now (a .out)))) (c .before .before .before .before .before .before .part-line .ensures .bytes) in
-    (c .before .before .give .ensures .0 ∙ ap answerOf e, c .before .before .give .ensures .1 ∙ ap (λ o. bufferOf o (now (a .out))) e)
+    let begins = c .before .before .before .before .before .before .part-line .ensures in
+    let e = ap (fit (length (now (a .out)))) (begins .bytes) in (
+      c .before .before .give .ensures .0 ∙ ap answerOf e,
+      (
+        c .before .before .give .ensures .1 ∙ ap (λ o. bufferOf o (now (a .out))) e,
+        omega (arith, begins-within begins),
+      ),
+    )
 
 pub line-at-spec : {M : Type 1} → statement M
 line-at-spec =

@@ -1,9 +1,11 @@
 -- `mark`: the line at the place of the record; what it tells follows from the answer and the buffer.
-use mathlib.Core.Path.{sym, ap, _∙_}
+use mathlib.Core.Path.{sym, ap, subst, _∙_}
+use Prim.Native.Nat.{_≤_}
 use denote.Ref.{now}
 use lib.ListN.{length, take}
 use Rattle.record.specs.Outcome.{answerOf, bufferOf, fit}
 use Rattle.record.proofs.Outcome.{fit-bytes}
+use Rattle.marking.specs.Lines.{longest}
 use Rattle.marking.specs.Marking.{lineAt, markLine, markOutcome}
 use Rattle.marking.proofs.ToldLaws.{told}
 use borrow.Author.Needs.{needs}
@@ -26,11 +28,14 @@ returns c =
     let s = now (a .script) in
     let e = ap (λ p. fit (length (now (a .out))) (lineAt s (a .index) p)) (c .before .before .before .before .place .ensures) in
     let answer = c .before .before .line-at .ensures .0 ∙ ap answerOf e in
-    let buffer = c .before .before .line-at .ensures .1 ∙ ap (λ o. bufferOf o (now (a .out))) e in (
+    let buffer = c .before .before .line-at .ensures .1 .0 ∙ ap (λ o. bufferOf o (now (a .out))) e in (
       answer,
       (
         buffer,
-        λ short n r. told s (a .index) _ short (ap (take n) buffer ∙ fit-bytes (length (now (a .out))) n (markLine s (a .index)) (now (a .out)) (sym answer ∙ r)),
+        (
+          subst (λ p. length (lineAt s (a .index) p) ≤ longest) (c .before .before .before .before .place .ensures) (c .before .before .line-at .ensures .1 .1),
+          λ short n r. told s (a .index) _ short (ap (take n) buffer ∙ fit-bytes (length (now (a .out))) n (markLine s (a .index)) (now (a .out)) (sym answer ∙ r)),
+        ),
       ),
     )
 

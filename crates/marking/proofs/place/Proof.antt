@@ -17,12 +17,10 @@ Inv-loop script index at₀ i₀ at i = (i ≤ index) × (at ≡ placeOf script 
 abbrev μ-loop : tie.MeasureT-loop
 μ-loop script index at₀ i₀ at i = index - i
 
--- src/lib.rt:90:5
 loop-holds : tie.Need-loop-holds Inv-loop μ-loop
 unfolding placeOf
 loop-holds c = (omega arith, refl)
 
--- src/lib.rt:92:13
 returns : tie.Need-returns Inv-loop μ-loop
 returns c =
     let l = c .before .before in
@@ -30,27 +28,23 @@ returns c =
     let ended : length (now (a .script)) ≤ placeOf (now (a .script)) (l .loop .i) = rw (l .loop .inv .1) at (c .if1 .taken) in
     place-ended (now (a .script)) (l .loop .i) (a .index) ended (c .before .loop-test .taken)
 
--- src/lib.rt:94:9
 past-requires : tie.Need-past-requires Inv-loop μ-loop
 past-requires c κs = search needs
 
--- src/lib.rt:95:9
 add-i : tie.Need-add-i Inv-loop μ-loop
 add-i c = omega arith
 
--- src/lib.rt:90:5
 loop-less : tie.Need-loop-less Inv-loop μ-loop
 loop-less c = omega arith
 
--- src/lib.rt:90:5
 loop-again : tie.Need-loop-again Inv-loop μ-loop
 unfolding placeOf
 loop-again c =
     let l = c .before .before .before in
-    let a = l .before .before .args in
-    (omega arith, c .past .ensures ∙ ap (pastOf (now (a .script)) (l .loop .i)) (l .loop .inv .1) ∙ sym (ap (placeOf (now (a .script))) (add-one (l .loop .i))))
+    let s = now (l .before .before .args .script) in
+    let next : c .past .result ≡ pastOf s (l .loop .i) (l .loop .at) = c .past .ensures in
+    (omega arith, next ∙ ap (pastOf s (l .loop .i)) (l .loop .inv .1) ∙ sym (ap (placeOf s) (add-one (l .loop .i))))
 
--- src/lib.rt:85:1
 returns-2 : tie.Need-returns-2 Inv-loop μ-loop
 returns-2 c =
     let l = c .before in
