@@ -5,10 +5,12 @@ ghost use mathlib.Core.List.{_++_};
 ghost use lib.ListN.{length, drop};
 ghost use Rattle.rows.specs.Row.{width, mask};
 ghost use Rattle.rows.specs.Table.{blocks, size, at};
+ghost use Rattle.rows.specs.Product.{Products};
 ghost use Rattle.rows.specs.Machine.{automatonIn, Valid};
 ghost use Rattle.comparison.specs.Hunt.{Hunting, Hunted, Ended};
 ghost use Rattle.comparison.specs.Sum.{beside, Filled, wordIn, Traced, Judged};
 use reduction::Size;
+use rows::Line;
 use rows::Machine;
 use rows::Row;
 use rows::Table;
@@ -19,14 +21,14 @@ pub enum Hunt {
     Found(usize),
 }
 
-// Row k by letter l; a new row that f accepts ends the search.
-pub fn try_pair(t: &Table, m: Machine, b: &mut Table, s: Size, k: usize, l: usize) -> Hunt
-    requires { ⌜ Valid (now t) m × Hunting (m .letters) (now t) (m .states) (mask (m .initial)) (mask (m .finals)) (now b) (s .count) k l (mask (s .pivots)) × (k < s .count) × (l < m .letters) ⌝ }
-    ensures { λ r. ⌜ Hunted (m .letters) (now (t .entry)) (m .states) (mask (m .initial)) (mask (m .finals)) (now (b .exit)) (s .count) k (l + 1) r ⌝ }
+// Row k by letter l, which stands in the line y; a new row that the final column accepts ends the search.
+pub fn try_pair(t: &Table, m: Machine, b: &mut Table, y: &Line, s: Size, k: usize, l: usize) -> Hunt
+    requires { ⌜ Valid (now t) m × Hunting (m .letters) (now t) (m .states) (mask (m .initial)) (mask (m .finals)) (now b) (s .count) k l (mask (s .pivots)) × (k < s .count) × (l < m .letters) × Products (m .letters) (m .states) (at (now b) 2 k) (now t) (now y) ⌝ }
+    ensures { λ r. ⌜ Hunted (m .letters) (now (t .entry)) (m .states) (mask (m .initial)) (mask (m .finals)) (now (b .exit)) (s .count) k (l + 1) r × (at (now (b .exit)) 2 k ≡ at (now (b .entry)) 2 k) ⌝ }
 {
     let d = s.count;
     let f = m.finals;
-    let q = reduction::advance(t, m, b, s, k, l);
+    let q = reduction::advance(t, m, b, y, s, k, l);
     let e = q.count;
     let p = q.pivots;
     let next = Size {
@@ -36,8 +38,8 @@ pub fn try_pair(t: &Table, m: Machine, b: &mut Table, s: Size, k: usize, l: usiz
     if e <= d {
         return Hunt::Going(next);
     }
-    let y = rows::load(b, 2, d);
-    if rows::parity(y, f) {
+    let x = rows::load(b, 2, d);
+    if rows::parity(x, f) {
         return Hunt::Found(d);
     }
     Hunt::Going(next)
@@ -49,10 +51,13 @@ pub fn try_row(t: &Table, m: Machine, b: &mut Table, s: Size, k: usize) -> Hunt
     ensures { λ r. ⌜ Hunted (m .letters) (now (t .entry)) (m .states) (mask (m .initial)) (mask (m .finals)) (now (b .exit)) (s .count) (k + 1) 0 r ⌝ }
 {
     let a = m.letters;
+    let x = rows::load(b, 2, k);
+    let mut y = [0u64; 8];
+    rows::times_all(t, a, x, &mut y);
     let mut r = s;
     let mut l: usize = 0;
     while l < a {
-        let h = try_pair(t, m, b, r, k, l);
+        let h = try_pair(t, m, b, &y, r, k, l);
         let Hunt::Going(next) = h else {
             return h;
         };

@@ -43,6 +43,11 @@ pub placed-more : (n d p y f g : ℕ) (t s : List ℕ) (c d′ p′ : ℕ) → P
 placed-more n d p y f g t s c d′ p′ (inl O) = let e = O .count in omega arith
 placed-more n d p y f g t s c d′ p′ (inr N) = let e = N .count in omega arith
 
+-- The rows found before are as they were.
+pub placed-kept : (n d p y f g : ℕ) (t s : List ℕ) (c d′ p′ : ℕ) → Placed n d p y f g t s c d′ p′ → (r : ℕ) → r < d → at s 2 r ≡ at t 2 r
+placed-kept n d p y f g t s c d′ p′ (inl O) r h = ap (λ u. at u 2 r) (O .table)
+placed-kept n d p y f g t s c d′ p′ (inr N) r h = N .row-old r h
+
 -- ---- the search
 
 -- The initial row is placed first. S are the products done: none yet.

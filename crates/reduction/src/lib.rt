@@ -5,11 +5,12 @@ ghost use Prim.Native.Nat.{ℕ, _+_, _^_, _≤_, _<_};
 ghost use lib.ListN.{length};
 ghost use Rattle.rows.specs.Row.{width, mask};
 ghost use Rattle.rows.specs.Table.{size, at};
-ghost use Rattle.rows.specs.Product.{product};
+ghost use Rattle.rows.specs.Product.{product, Products};
 ghost use Rattle.rows.specs.Machine.{automatonIn, Valid};
 ghost use Rattle.elimination.specs.Place.{BasisIn, Placed};
 ghost use Rattle.reduction.specs.Tables.{Searching, Column, Reduces, Minimises};
 use elimination::Spot;
+use rows::Line;
 use rows::Machine;
 use rows::Row;
 use rows::Table;
@@ -20,17 +21,16 @@ pub struct Size {
     pub pivots: Row,
 }
 
-// Row k of the basis b times letter l, placed in b.
-pub fn advance(t: &Table, m: Machine, b: &mut Table, s: Size, k: usize, l: usize) -> Spot
-    requires { ⌜ Valid (now t) m × (length (now b) ≡ size) × BasisIn (m .states) (s .count) (mask (s .pivots)) (now b) × (k < s .count) × (l < m .letters) ⌝ }
+// Row k of the basis b times letter l, which stands in the line y, placed in b.
+pub fn advance(t: &Table, m: Machine, b: &mut Table, y: &Line, s: Size, k: usize, l: usize) -> Spot
+    requires { ⌜ Valid (now t) m × (length (now b) ≡ size) × BasisIn (m .states) (s .count) (mask (s .pivots)) (now b) × (k < s .count) × (l < m .letters) × Products (m .letters) (m .states) (at (now b) 2 k) (now t) (now y) ⌝ }
     ensures { λ r. ⌜ Placed (m .states) (s .count) (mask (s .pivots)) (product (m .states) (at (now (b .entry)) 2 k) (at (now (t .entry)) l)) k l (now (b .entry)) (now (b .exit)) (mask (r .row)) (r .count) (mask (r .pivots)) ⌝ }
 {
     let n = m.states;
     let d = s.count;
     let p = s.pivots;
-    let x = rows::load(b, 2, k);
-    let y = rows::times(t, l, x);
-    elimination::place(b, n, d, p, y, k, l)
+    let x = rows::pick(y, l);
+    elimination::place(b, n, d, p, x, k, l)
 }
 
 // The same, with the rows that make the product kept in out.
@@ -39,14 +39,15 @@ pub fn step(
     m: Machine,
     b: &mut Table,
     out: &mut Table,
+    y: &Line,
     s: Size,
     k: usize,
     l: usize,
 ) -> Size
-    requires { ⌜ Valid (now t) m × Searching (m .letters) (now t) (m .states) (mask (m .initial)) (mask (m .finals)) (now b) (now out) (s .count) k l (mask (s .pivots)) × (k < s .count) × (l < m .letters) ⌝ }
-    ensures { λ r. ⌜ Searching (m .letters) (now (t .entry)) (m .states) (mask (m .initial)) (mask (m .finals)) (now (b .exit)) (now (out .exit)) (r .count) k (l + 1) (mask (r .pivots)) × (s .count ≤ r .count) ⌝ }
+    requires { ⌜ Valid (now t) m × Searching (m .letters) (now t) (m .states) (mask (m .initial)) (mask (m .finals)) (now b) (now out) (s .count) k l (mask (s .pivots)) × (k < s .count) × (l < m .letters) × Products (m .letters) (m .states) (at (now b) 2 k) (now t) (now y) ⌝ }
+    ensures { λ r. ⌜ Searching (m .letters) (now (t .entry)) (m .states) (mask (m .initial)) (mask (m .finals)) (now (b .exit)) (now (out .exit)) (r .count) k (l + 1) (mask (r .pivots)) × (s .count ≤ r .count) × (at (now (b .exit)) 2 k ≡ at (now (b .entry)) 2 k) ⌝ }
 {
-    let q = advance(t, m, b, s, k, l);
+    let q = advance(t, m, b, y, s, k, l);
     let row = q.row;
     rows::store(out, l, k, row);
     let p = q.pivots;
@@ -62,10 +63,13 @@ pub fn expand(t: &Table, m: Machine, b: &mut Table, out: &mut Table, s: Size, k:
     ensures { λ r. ⌜ Searching (m .letters) (now (t .entry)) (m .states) (mask (m .initial)) (mask (m .finals)) (now (b .exit)) (now (out .exit)) (r .count) (k + 1) 0 (mask (r .pivots)) × (s .count ≤ r .count) ⌝ }
 {
     let a = m.letters;
+    let x = rows::load(b, 2, k);
+    let mut y = [0u64; 8];
+    rows::times_all(t, a, x, &mut y);
     let mut r = s;
     let mut l: usize = 0;
     while l < a {
-        r = step(t, m, b, out, r, k, l);
+        r = step(t, m, b, out, &y, r, k, l);
         l += 1;
     }
     r

@@ -1,28 +1,53 @@
 -- `try_row`: the letters below l are done, and no row found is accepted.
-use mathlib.Core.Path.{_≡_}
-use Prim.Native.Nat.{_-_, _≤_}
+use mathlib.Core.Path.{_≡_, refl, sym, subst, _∙_}
+use Prim.Native.Nat.{_-_, _^_, _≤_, _<_}
 use native.Mathlib.Omega.{arith}
 use borrow.Author.Needs.{needs}
-use Rattle.rows.specs.Row.{mask}
+use Rattle.rows.specs.Row.{width, mask}
+use Rattle.rows.specs.Table.{at}
+use Rattle.rows.specs.Product.{Products}
+use Rattle.reduction.proofs.TableSearch.{count-bound, found-low}
 use Rattle.comparison.specs.Hunt.{Hunting}
 use Rattle.comparison.proofs.HuntLaws.{hunting-next}
 use Rattle.comparison.proofs.try_row.Statement.{statement}
 use Rattle.comparison.proofs.try_row.Tie as tie
 
 abbrev Inv-loop : tie.InvT-loop
-Inv-loop t m b₀ k a r₀ l₀ b r l = (l ≤ m .letters) × Hunting (m .letters) t (m .states) (mask (m .initial)) (mask (m .finals)) b (r .count) k l (mask (r .pivots)) × (r₀ .count ≤ r .count)
+Inv-loop t m b₀ k a y r₀ l₀ b r l = (l ≤ m .letters) × Hunting (m .letters) t (m .states) (mask (m .initial)) (mask (m .finals)) b (r .count) k l (mask (r .pivots)) × (r₀ .count ≤ r .count) × (at b 2 k ≡ at b₀ 2 k)
 
 abbrev μ-loop : tie.MeasureT-loop
-μ-loop t m b₀ k a r₀ l₀ b r l = m .letters - l
+μ-loop t m b₀ k a y r₀ l₀ b r l = m .letters - l
+
+-- There are at most as many rows as bits.
+below : (s : tie.Start Inv-loop μ-loop) → s .args .k < width
+below s = omega (arith, count-bound (s .args .m .states) (s .args .s .count) (mask (s .args .s .pivots)) (s .args .b .now) (s .pre .1 .search .basis), s .pre .0 .states, s .pre .2)
+
+-- The line has the products of row k.
+made : (c : tie.After-times-all Inv-loop μ-loop) → Products (c .before .before .before .before .args .m .letters) (c .before .before .before .before .args .m .states) (at (c .before .before .before .before .args .b .now) 2 (c .before .before .before .before .args .k)) (c .before .before .before .before .args .t .now) (c .times-all .last .1 .1 .1 .0)
+made c =
+    let s = c .before .before .before .before in
+    let a = s .args in
+    let n = a .m .states in
+    let e = c .before .before .load .ensures in
+    let h = found-low n (a .s .count) (mask (a .s .pivots)) (a .b .now) (s .pre .1 .search .basis) (a .k) (s .pre .2) in
+    subst (λ x. Products (a .m .letters) n x (a .t .now) (c .times-all .last .1 .1 .1 .0)) e (c .times-all .ensures n (subst (λ x. x < 2 ^ n) (sym e) h))
+
+load-requires : tie.Need-load-requires Inv-loop μ-loop
+load-requires c κs = (omega arith, below (c .before))
+
+times-all-requires : tie.Need-times-all-requires Inv-loop μ-loop
+times-all-requires c κs = (c .before .before .before .pre .0 .letters, refl)
 
 loop-holds : tie.Need-loop-holds Inv-loop μ-loop
-loop-holds c = (omega arith, c .pre .1, omega arith)
+loop-holds c = (omega arith, c .before .before .before .before .pre .1, omega arith, refl)
 
 try-pair-requires : tie.Need-try-pair-requires Inv-loop μ-loop
 try-pair-requires c κs =
-    let v = c .before .before .loop in
-    let s = c .before .before .before in
-    (s .pre .0, v .inv .1, omega (arith, v .inv .2, s .pre .2), omega arith)
+    let v = c .before .before .before .loop in
+    let y = c .before .before .before .before in
+    let s = y .before .before .before .before in
+    let a = s .args in
+    (s .pre .0, v .inv .1, omega (arith, v .inv .2, s .pre .2), omega arith, subst (λ x. Products (a .m .letters) (a .m .states) x (a .t .now) (y .times-all .last .1 .1 .1 .0)) (sym (v .inv .3)) (made y))
 
 enum-known-h : tie.Need-enum-known-h Inv-loop μ-loop
 enum-known-h c = search needs
@@ -31,7 +56,7 @@ enum-told : tie.Need-enum-told Inv-loop μ-loop
 enum-told c = search needs
 
 returns : tie.Need-returns Inv-loop μ-loop
-returns c = rw (c .enum-told .given .1) (rw (c .enum-told .given .1) at (c .before .before .try-pair .ensures))
+returns c = rw (c .enum-told .given .1) (rw (c .enum-told .given .1) at (c .before .before .try-pair .ensures .0))
 
 add-l : tie.Need-add-l Inv-loop μ-loop
 add-l c = omega arith
@@ -41,14 +66,14 @@ loop-less c = omega arith
 
 loop-again : tie.Need-loop-again Inv-loop μ-loop
 loop-again c =
-    let v = c .before .before .before .before .before .before .loop in
-    let e = rw (c .before .h .given .1) at (c .before .before .before .try-pair .ensures) in
-    (omega arith, e .0, omega (arith, e .1, v .inv .2))
+    let v = c .before .before .before .before .before .before .before .loop in
+    let e = rw (c .before .h .given .1) at (c .before .before .before .try-pair .ensures .0) in
+    (omega arith, e .0, omega (arith, e .1, v .inv .2), c .before .before .before .try-pair .ensures .1 ∙ v .inv .3)
 
 returns-2 : tie.Need-returns-2 Inv-loop μ-loop
 returns-2 c =
     let v = c .before .loop in
-    let a = c .before .before .args in
+    let a = c .before .before .before .before .before .before .args in
     let e : v .l ≡ a .m .letters = omega arith in
     (hunting-next (a .m .letters) (a .t .now) (a .m .states) (mask (a .m .initial)) (mask (a .m .finals)) (v .b) (v .r .count) (a .k) (mask (v .r .pivots)) (rw e at (v .inv .1)), v .inv .2)
 
@@ -58,6 +83,8 @@ try-row-spec =
     (tie.spec
     Inv-loop
     μ-loop
+    load-requires
+    times-all-requires
     loop-holds
     try-pair-requires
     enum-known-h
