@@ -105,7 +105,7 @@ void write(const std::string& path, const std::string& text)
 int main(int count, char** words)
 {
     if (count != 2) {
-        std::fprintf(stderr, "stored DIRECTORY\n");
+        std::fprintf(stderr, "scripts DIRECTORY\n");
         return 2;
     }
     const std::string directory = words[1];

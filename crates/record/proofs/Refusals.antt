@@ -166,7 +166,7 @@ stray-seven w n bs (suc k) p code place e = go (leb (2 ^ n) (number w bs p)) e (
     go true r rest = cc
     go false r rest = rest r
 
-good-stray : (w n : ℕ) (bs : List ℕ) (k p : ℕ) → ((j : ℕ) → j < k → number w bs (p + w * j) < 2 ^ n) → strayFrom w n bs k p ≡ Good
+pub good-stray : (w n : ℕ) (bs : List ℕ) (k p : ℕ) → ((j : ℕ) → j < k → number w bs (p + w * j) < 2 ^ n) → strayFrom w n bs k p ≡ Good
 unfolding strayFrom
 good-stray w n bs zero p h = refl
 good-stray w n bs (suc k) p h =

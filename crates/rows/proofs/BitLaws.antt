@@ -9,7 +9,7 @@ use native.Mathlib.Decide.{decLt}
 use borrow.Author.Tests.{eq-eqb, ne-eqb, lt-ltb, le-ltb}
 use lib.Dec.{eqb, ltb, eqb·zero-suc, eqb·suc-zero, eqb·suc-suc}
 use lib.Pow.{pow-pos, shr-shr, shl-shr, pow-mono, shl-exact}
-use lib.Bits.{differ, bitXor, bitAnd, xor-step, and-step, shifted-half, shifted-even, and-mask}
+use lib.Bits.{differ, bitXor, bitAnd, xor-step, and-step, shifted-half, shifted-even, and-mask, bitOr, or-add-and, and-le-l, and-le-r}
 use Rattle.automata.specs.Xor.{_⊕_}
 use Rattle.automata.specs.Mask.{bitOf}
 use Rattle.automata.proofs.Mask.{bit-zero, bit-suc, bits-same}
@@ -73,6 +73,13 @@ bit-and (suc j) a b =
     ∙ ap (λ x. bitOf x j) (digits-div (bitAnd (a / 2) (b / 2)) (omega (arith, mod-two a)))
     ∙ bit-and j (a / 2) (b / 2)
     ∙ sym (ap₂ _&&_ (bit-suc a j) (bit-suc b j))
+
+-- Numbers are at most their or.
+pub or-ge-l : (a b : ℕ) → a ≤ bitOr a b
+or-ge-l a b = omega (arith, or-add-and a b, and-le-r a b)
+
+pub or-ge-r : (a b : ℕ) → b ≤ bitOr a b
+or-ge-r a b = omega (arith, or-add-and a b, and-le-l a b)
 
 -- ---- single bits
 

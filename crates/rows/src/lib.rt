@@ -3,7 +3,7 @@
 ghost use mathlib.Core.Path.{_≡_};
 ghost use mathlib.Core.Bool.{Bool, true, false, _&&_, cond};
 ghost use Prim.Native.Nat.{ℕ, _+_, _*_, _/_, _^_, _≤_, _<_};
-ghost use lib.Bits.{bitXor, bitAnd};
+ghost use lib.Bits.{bitXor, bitAnd, bitOr};
 ghost use lib.Dec.{eqb, ltb};
 ghost use lib.ListN.{length, getD};
 ghost use Rattle.automata.specs.Xor.{xorBelow};
@@ -76,6 +76,15 @@ pub fn and(x: Row, y: Row) -> Row
 {
     Row {
         bits: x.bits & y.bits,
+    }
+}
+
+// The bits of x or y or both.
+pub fn or(x: Row, y: Row) -> Row
+    ensures { λ r. ⌜ mask r ≡ bitOr (mask x) (mask y) ⌝ }
+{
+    Row {
+        bits: x.bits | y.bits,
     }
 }
 
