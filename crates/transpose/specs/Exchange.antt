@@ -4,6 +4,7 @@
 --   exchanged b T      bit b of the row's number and bit b of the place have traded values, at the places below width
 --   lower b r          of the numbers r and flip b r, whose rows trade bits, the one without bit b
 --   swapped b q T      that exchange in the rows q and flip b q alone
+--   staged b o q T     that exchange in the pairs whose lower row is o or above, and below q
 --   HasRows l n T s    the first n rows of block l of s are those of T
 --   OnlyBlock l t s    s is a table, and differs from the table t in block l alone
 use mathlib.Core.Path.{_≡_}
@@ -11,7 +12,7 @@ use mathlib.Core.Bool.{Bool, _&&_, cond}
 use mathlib.Core.List.{List}
 use Prim.Native.Nat.{ℕ, _^_, _<_}
 use lib.Bits.{bitXor}
-use lib.Dec.{eqb, ltb}
+use lib.Dec.{eqb, leb, ltb}
 use lib.ListN.{length}
 use Rattle.automata.specs.Xor.{_⊕_}
 use Rattle.automata.specs.Mask.{bitOf}
@@ -32,6 +33,9 @@ lower b r = cond (bitOf r b) (flip b r) r
 
 abbrev pub swapped : ℕ → ℕ → (ℕ → ℕ → Bool) → ℕ → ℕ → Bool
 swapped b q T r k = cond (eqb (lower b r) q) (exchanged b T r k) (T r k)
+
+abbrev pub staged : ℕ → ℕ → ℕ → (ℕ → ℕ → Bool) → ℕ → ℕ → Bool
+staged b o q T r k = cond (leb o (lower b r) && ltb (lower b r) q) (exchanged b T r k) (T r k)
 
 unfoldable pub HasRows : ℕ → ℕ → (ℕ → ℕ → Bool) → List ℕ → Type 0
 HasRows l n T s = (r k : ℕ) → r < n → row s l r k ≡ T r k

@@ -4,12 +4,12 @@ use rows::Row;
 use rows::Table;
 ghost use mathlib.Core.Path.{_≡_};
 ghost use mathlib.Core.Bool.{false};
-ghost use Prim.Native.Nat.{ℕ, _^_, _≤_, _<_};
+ghost use Prim.Native.Nat.{ℕ, _+_, _^_, _≤_, _<_};
 ghost use lib.ListN.{length};
 ghost use Rattle.automata.specs.Mask.{bitOf};
 ghost use Rattle.rows.specs.Row.{width, levels, mask, stripes};
 ghost use Rattle.rows.specs.Table.{blocks, size, at, row};
-ghost use Rattle.transpose.specs.Exchange.{padded, exchanged, swapped, HasRows, OnlyBlock};
+ghost use Rattle.transpose.specs.Exchange.{padded, exchanged, swapped, staged, HasRows, OnlyBlock};
 ghost use Rattle.transpose.specs.Transposed.{Transposed};
 
 // 2 ^ w, as many rows or places.
@@ -39,20 +39,31 @@ fn swap(t: &mut Table, l: usize, b: usize, m: Row, r: usize)
     rows::store(t, l, r + s, y);
 }
 
-// Exchanges bit b in the first 2 ^ w rows of block l.
+// Exchanges bit b in the 2 ^ b rows from q on, whose numbers have no bit b, and in their partners.
+fn swap_run(t: &mut Table, l: usize, b: usize, m: Row, q: usize)
+    requires { ⌜ (l < blocks) × (b < levels) × (mask m ≡ stripes b) × (q + 2 ^ b ≤ width) × ((i : ℕ) → i < 2 ^ b → bitOf (q + i) b ≡ false) × (length (now t) ≡ size) ⌝ }
+    ensures { λ z. ⌜ OnlyBlock l (now (t .entry)) (now (t .exit)) × HasRows l width (staged b q (q + 2 ^ b) (row (now (t .entry)) l)) (now (t .exit)) ⌝ }
+{
+    let e = q + power(b);
+    let mut r = q;
+    while r < e {
+        swap(t, l, b, m, r);
+        r += 1;
+    }
+}
+
+// Exchanges bit b in the first 2 ^ w rows of block l: those without bit b come in runs of 2 ^ b, and their partners after each run.
 fn stage(t: &mut Table, l: usize, w: usize, b: usize)
     requires { ⌜ (l < blocks) × (w ≤ levels) × (b < w) × (length (now t) ≡ size) ⌝ }
     ensures { λ z. ⌜ OnlyBlock l (now (t .entry)) (now (t .exit)) × HasRows l (2 ^ w) (exchanged b (row (now (t .entry)) l)) (now (t .exit)) ⌝ }
 {
     let m = rows::stripes(b);
     let n = power(w);
+    let s = power(b);
     let mut r: usize = 0;
     while r < n {
-        let o = r >> b & 1 == 1;
-        if !o {
-            swap(t, l, b, m, r);
-        }
-        r += 1;
+        swap_run(t, l, b, m, r);
+        r += 2 * s;
     }
 }
 
