@@ -99,42 +99,72 @@ static double seconds() {
 
 static volatile size_t sink;
 
-// The fastest of many rounds over all inputs, in microseconds for one call.
-template <class F> static double fastest(size_t inputs, double budget, F call) {
+// The fastest of many slices of work, in microseconds for one call. The slices of the three programs take turns, so that what slows
+// the machine for a while slows all three.
+struct Timer {
     size_t rounds = 1;
-    double best = 1e9, spent = 0;
-    for (int tries = 0; spent < budget || tries < 5; tries++) {
+    double best = 1e9;
+
+    template <class F> double slice(size_t inputs, F call) {
         double from = seconds();
         for (size_t r = 0; r < rounds; r++)
             for (size_t i = 0; i < inputs; i++) call(i);
         double took = seconds() - from;
-        spent += took;
         if (took < 50e-6) rounds *= 2;
-        best = std::min(best, took / (rounds * inputs));
+        else best = std::min(best, took / (rounds * inputs) * 1e6);
+        return took;
     }
-    return best * 1e6;
+};
+
+struct Line { std::string name; double plain, tuned, proved; };
+static std::vector<Line> lines;
+
+template <class P, class T, class V> static void time_three(const std::string& name, size_t inputs, double budget, P p, T t, V v) {
+    Timer plain, tuned, proved;
+    double spent = 0;
+    for (int turn = 0; spent < 3 * budget || turn < 30; turn++)
+        spent += plain.slice(inputs, p) + tuned.slice(inputs, t) + proved.slice(inputs, v);
+    lines.push_back({name, plain.best, tuned.best, proved.best});
+    std::printf("%-42s %8.3f %8.3f %8.3f   %6.2f %6.2f\n", name.c_str(), plain.best, tuned.best, proved.best, proved.best / plain.best, proved.best / tuned.best);
+    std::fflush(stdout);
 }
 
-static void line(const std::string& name, double plain, double tuned, double proved) {
-    std::printf("%-40s %8.2f %8.2f %8.2f   %6.2f %6.2f\n", name.c_str(), plain, tuned, proved, proved / plain, proved / tuned);
+static void time_check(const std::string& name, const std::vector<Bytes>& in, double budget) {
+    auto plain = [&](size_t i) { sink = check(in[i].data(), in[i].size(), 1).no; };
+    time_three("check " + name, in.size(), budget, plain, plain, [&](size_t i) { sink = nxa_check(in[i].data(), in[i].size()).number; });
 }
 
 static void time_minimal(const std::string& name, const std::vector<Bytes>& in, double budget) {
     u8 out[NXA_RECORD_MAX];
-    double p = fastest(in.size(), budget, [&](size_t i) { sink = minimal(in[i].data(), in[i].size(), out, sizeof out).dim; });
-    double t = fastest(in.size(), budget, [&](size_t i) { sink = tuned::minimal(in[i].data(), in[i].size(), out, sizeof out).dim; });
-    double v = fastest(in.size(), budget, [&](size_t i) { sink = nxa_minimal(in[i].data(), in[i].size(), out, sizeof out).value; });
-    line("minimal " + name, p, t, v);
+    time_three(
+        "minimal " + name, in.size(), budget, [&](size_t i) { sink = minimal(in[i].data(), in[i].size(), out, sizeof out).dim; },
+        [&](size_t i) { sink = tuned::minimal(in[i].data(), in[i].size(), out, sizeof out).dim; },
+        [&](size_t i) { sink = nxa_minimal(in[i].data(), in[i].size(), out, sizeof out).value; });
 }
 
 static void time_compare(const std::string& name, const std::vector<Pair>& in, double budget) {
     u8 w[64];
     auto first = [&](size_t i) { return in[i].first.data(); };
     auto second = [&](size_t i) { return in[i].second.data(); };
-    double p = fastest(in.size(), budget, [&](size_t i) { sink = compare(first(i), in[i].first.size(), second(i), in[i].second.size(), w, 64).len; });
-    double t = fastest(in.size(), budget, [&](size_t i) { sink = tuned::compare(first(i), in[i].first.size(), second(i), in[i].second.size(), w, 64).len; });
-    double v = fastest(in.size(), budget, [&](size_t i) { sink = nxa_compare(first(i), in[i].first.size(), second(i), in[i].second.size(), w, 64).length; });
-    line("compare " + name, p, t, v);
+    time_three(
+        "compare " + name, in.size(), budget, [&](size_t i) { sink = compare(first(i), in[i].first.size(), second(i), in[i].second.size(), w, 64).len; },
+        [&](size_t i) { sink = tuned::compare(first(i), in[i].first.size(), second(i), in[i].second.size(), w, 64).len; },
+        [&](size_t i) { sink = nxa_compare(first(i), in[i].first.size(), second(i), in[i].second.size(), w, 64).length; });
+}
+
+// The family with the worst ratio to `of`, among those that `counts` takes.
+template <class C, class O> static void worst(const char* what, C counts, O of) {
+    const Line* bad = nullptr;
+    for (const Line& l : lines)
+        if (counts(l) && (!bad || l.proved / of(l) > bad->proved / of(*bad))) bad = &l;
+    if (bad) std::printf("worst %s: %.2f, %s\n", what, bad->proved / of(*bad), bad->name.c_str());
+}
+
+static void worst_lines() {
+    auto plain = [](const Line& l) { return l.plain; };
+    worst("to the better of the two", [](const Line&) { return true; }, [](const Line& l) { return std::min(l.plain, l.tuned); });
+    worst("to plain at n=32 a=8, over 5 microseconds", [](const Line& l) { return l.plain > 5 && l.name.find("n=32 a=8") != std::string::npos; }, plain);
+    worst("to plain, over 5 microseconds", [](const Line& l) { return l.plain > 5; }, plain);
 }
 
 // ---- agreement
@@ -164,9 +194,9 @@ static void agree(int cases) {
 }
 
 int main(int argc, char** argv) {
-    double budget = argc > 1 ? std::atof(argv[1]) : 0.15;
+    double budget = argc > 1 ? std::atof(argv[1]) : 0.25;
     agree(20000);
-    std::printf("%-40s %8s %8s %8s   %6s %6s\n", "microseconds for one call", "plain", "tuned", "proved", "/plain", "/tuned");
+    std::printf("%-42s %8s %8s %8s   %6s %6s\n", "microseconds for one call", "plain", "tuned", "proved", "/plain", "/tuned");
     for (int n : {8, 16, 32})
         for (int a : {1, 2, 8}) {
             std::string size = " n=" + std::to_string(n) + " a=" + std::to_string(a);
@@ -188,8 +218,10 @@ int main(int argc, char** argv) {
         thick.push_back(record_of(dense(32, 8, 0.9)));
         nothing.push_back({record_of(no_final(dense(32, 8))), record_of(no_final(dense(32, 8)))});
     }
+    time_check("n=32 a=8", thick, budget);
     time_minimal("density 0.9 n=32 a=8", thick, budget);
     time_minimal("only 0^31 a=1", {record_of(only(31, 1))}, budget);
     time_minimal("only 0^31 a=8", {record_of(only(31, 8))}, budget);
     time_compare("of two empty languages n=32 a=8", nothing, budget);
+    worst_lines();
 }
