@@ -68,10 +68,9 @@ pub fn judge(first: &[u8], second: &[u8], b: &mut Table) -> Verdict
 {
     let mut t = [0u64; 512];
     let mut u = [0u64; 512];
-    let mut s = [0u64; 512];
     let g = record::read(first, &mut t);
     let h = record::read(second, &mut u);
-    comparison::compare(&t, g, &u, h, &mut s, b)
+    comparison::compare(&mut t, g, &u, h, b)
 }
 
 // Compares two records and writes the first word that just one accepts. For two well-formed records over the same letters:

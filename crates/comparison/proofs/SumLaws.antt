@@ -23,7 +23,7 @@ use Rattle.rows.specs.Table.{blocks, size, at, row, stored}
 use Rattle.rows.specs.Machine.{auto, Bounded}
 use Rattle.rows.proofs.BitLaws.{bit-xor, bit-high, bit-shl, bit-shl-low}
 use Rattle.rows.proofs.TableLaws.{length-stored, stored-same, stored-block, stored-row}
-use Rattle.comparison.specs.Sum.{beside, Filled}
+use Rattle.comparison.specs.Sum.{beside, Joined, Filled}
 
 -- ---- a table filled row by row
 
@@ -59,6 +59,48 @@ if-low i n x y h = ap (λ b. cond b x y) (lt-ltb i n h)
 
 pub if-high : {X : Type 0} (i n : ℕ) (x y : X) → n ≤ i → cond (ltb i n) x y ≡ y
 if-high i n x y h = ap (λ b. cond b x y) (le-ltb i n h)
+
+module _ (l n : ℕ) (u t : List ℕ) where
+  pub joined-start : length t ≡ size → Joined l n 0 u t t
+  joined-start h = record { others = λ x i p d. refl; low = λ i p. refl; high = λ j p. absurd (not-suc-le-zero p); size = h }
+
+  pub joined-step : (j : ℕ) (s s′ : List ℕ) (r : ℕ) → n + j < width → l < blocks → r ≡ at u l j * 2 ^ n → s′ ≡ stored s l (n + j) r → Joined l n j u t s → Joined l n (j + 1) u t s′
+  joined-step j s s′ r h w hr e J = rw (e, add-one) (record {
+    others = λ x i p d. stored-block s l (n + j) r x i h p (λ z. d (sym z)) ∙ J .others x i p d;
+    low = λ i p. stored-row s l (n + j) r i (omega arith) ∙ J .low i p;
+    high = up-to {Q = λ i. at (stored s l (n + j) r) l (n + i) ≡ at u l i * 2 ^ n} j
+        (λ i p. stored-row s l (n + j) r (n + i) (omega arith) ∙ J .high i p)
+        (stored-same s l (n + j) r (J .size) w h ∙ hr);
+    size = length-stored s l (n + j) r ∙ J .size;
+  })
+
+-- The first l blocks have the rows of both, the others are as they were.
+pub record Besides (l n k : ℕ) (t u s : List ℕ) : Type 0 where
+  pub rows : (x i : ℕ) → x < l → i < n + k → at s x i ≡ beside t u n x i
+  pub rest : (x i : ℕ) → l ≤ x → i < width → at s x i ≡ at t x i
+  pub size : length s ≡ size
+
+pub besides-start : (n k : ℕ) (t u : List ℕ) → length t ≡ size → Besides 0 n k t u t
+besides-start n k t u h = record { rows = λ x i p. absurd (not-suc-le-zero p); rest = λ x i p q. refl; size = h }
+
+pub besides-step : (l n k : ℕ) (t u s s′ : List ℕ) → n + k ≤ width → Joined l n k u s s′ → Besides l n k t u s → Besides (l + 1) n k t u s′
+besides-step l n k t u s s′ w J B = rw add-one (record {
+  rows = λ x i p q. up-to {Q = λ x. at s′ x i ≡ beside t u n x i} l
+      (λ x p. J .others x i (omega arith) (omega arith) ∙ B .rows x i p q)
+      (here i q (decLt i n)) x p;
+  rest = λ x i p q. J .others x i q (omega arith) ∙ B .rest x i (omega arith) q;
+  size = J .size;
+})
+  where
+    here : (i : ℕ) → i < n + k → Dec (i < n) → at s′ l i ≡ beside t u n l i
+    here i q (yes z) = J .low i z ∙ B .rest l i (omega arith) (omega arith) ∙ sym (if-low i n (at t l i) (at u l (i - n) * 2 ^ n) z)
+    here i q (no z) = ap (at s′ l) back ∙ J .high (i - n) (omega arith) ∙ sym (if-high i n (at t l i) (at u l (i - n) * 2 ^ n) (omega arith))
+      where
+        back : i ≡ n + (i - n)
+        back = omega arith
+
+pub besides-end : (a n k : ℕ) (t u s : List ℕ) → Besides a n k t u s → Filled a (n + k) (beside t u n) s
+besides-end a n k t u s B = record { rows = B .rows; size = B .size }
 
 -- A row of the first beside a row of the second.
 pub pair-bits : (n x y : ℕ) → x < 2 ^ n → (j : ℕ) → bitOf (bitXor x (y * 2 ^ n)) j ≡ joined n (bitOf x) (bitOf y) j

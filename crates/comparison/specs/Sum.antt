@@ -1,5 +1,6 @@
 -- Two automata side by side in one table, and what their comparison answers.
 --   beside t u n l k     row k of letter l of the two side by side, the first with n states
+--   Joined l n k u t s   s is t with the k rows of block l of u, moved up by n, after the first n rows of that block
 --   Filled a n f s       the first n rows of the first a blocks of s are f
 --   Judged               the answer of a comparison, with the basis b that holds the words of the rows found
 --   Traced               what is known of the words of the rows of b up to row k
@@ -7,7 +8,7 @@ use mathlib.Core.Path.{_≡_}
 use mathlib.Core.Bool.{Bool, cond}
 use mathlib.Core.List.{List, [], _∷_, _++_}
 use mathlib.Core.Option.{none, some}
-use Prim.Native.Nat.{ℕ, _-_, _*_, _^_, _<_, _≤_}
+use Prim.Native.Nat.{ℕ, _+_, _-_, _*_, _^_, _<_, _≤_}
 use lib.Dec.{ltb}
 use lib.ListN.{length}
 use Rattle.automata.specs.Automaton.{Automaton, accepts}
@@ -23,6 +24,12 @@ beside t u n l k = cond (ltb k n) (at t l k) (at u l (k - n) * 2 ^ n)
 
 pub record Filled (a n : ℕ) (f : ℕ → ℕ → ℕ) (s : List ℕ) : Type 0 where
   pub rows : (l i : ℕ) → l < a → i < n → at s l i ≡ f l i
+  pub size : length s ≡ size
+
+pub record Joined (l n k : ℕ) (u t s : List ℕ) : Type 0 where
+  pub others : (x i : ℕ) → i < width → (x ≡ l → ⊥) → at s x i ≡ at t x i
+  pub low : (i : ℕ) → i < n → at s l i ≡ at t l i
+  pub high : (j : ℕ) → j < k → at s l (n + j) ≡ at u l j * 2 ^ n
   pub size : length s ≡ size
 
 -- The word of row r.

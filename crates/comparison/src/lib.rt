@@ -8,7 +8,7 @@ ghost use Rattle.rows.specs.Table.{blocks, size, at};
 ghost use Rattle.rows.specs.Product.{Products};
 ghost use Rattle.rows.specs.Machine.{automatonIn, Valid};
 ghost use Rattle.comparison.specs.Hunt.{Hunting, Hunted, Ended};
-ghost use Rattle.comparison.specs.Sum.{beside, Filled, wordIn, Traced, Judged};
+ghost use Rattle.comparison.specs.Sum.{beside, Joined, Filled, wordIn, Traced, Judged};
 use reduction::Size;
 use rows::Line;
 use rows::Machine;
@@ -110,41 +110,28 @@ pub fn first_accepted(t: &Table, m: Machine, b: &mut Table) -> Hunt
     )
 }
 
-// Row i of letter l of t and u side by side, t with n states and u with k.
-pub fn joined(t: &Table, u: &Table, n: usize, k: usize, l: usize, i: usize) -> Row
-    requires { ⌜ (n < width) × (n + k ≤ width) × (l < blocks) × (i < n + k) × ((j : ℕ) → j < k → at (now u) l j < 2 ^ k) ⌝ }
-    ensures { λ r. ⌜ mask r ≡ beside (now (t .entry)) (now (u .entry)) n l i ⌝ }
+// The rows of letter l of u after those of t: t has n states and u has k.
+pub fn join_block(t: &mut Table, u: &Table, n: usize, k: usize, l: usize)
+    requires { ⌜ (n < width) × (n + k ≤ width) × (l < blocks) × ((j : ℕ) → j < k → at (now u) l j < 2 ^ k) × (length (now t) ≡ size) ⌝ }
+    ensures { λ r. ⌜ Joined l n k (now (u .entry)) (now (t .entry)) (now (t .exit)) ⌝ }
 {
-    if i < n {
-        rows::load(t, l, i)
-    } else {
-        let x = rows::load(u, l, i - n);
-        rows::moved(x, n)
+    let mut j: usize = 0;
+    while j < k {
+        let x = rows::load(u, l, j);
+        let y = rows::moved(x, n);
+        rows::store(t, l, n + j, y);
+        j += 1;
     }
 }
 
-// The rows of letter l of t and u side by side.
-pub fn join_block(t: &Table, u: &Table, out: &mut Table, n: usize, k: usize, l: usize)
-    requires { ⌜ (n < width) × (n + k ≤ width) × (l < blocks) × ((j : ℕ) → j < k → at (now u) l j < 2 ^ k) × Filled l (n + k) (beside (now t) (now u) n) (now out) ⌝ }
-    ensures { λ r. ⌜ Filled (l + 1) (n + k) (beside (now (t .entry)) (now (u .entry)) n) (now (out .exit)) ⌝ }
-{
-    let d = n + k;
-    let mut i: usize = 0;
-    while i < d {
-        let r = joined(t, u, n, k, l, i);
-        rows::store(out, l, i, r);
-        i += 1;
-    }
-}
-
-// The rows of t and u side by side: the direct sum of their matrices.
-pub fn join(t: &Table, u: &Table, out: &mut Table, a: usize, n: usize, k: usize)
-    requires { ⌜ (a ≤ blocks) × (n < width) × (n + k ≤ width) × ((l j : ℕ) → l < a → j < k → at (now u) l j < 2 ^ k) × (length (now out) ≡ size) ⌝ }
-    ensures { λ r. ⌜ Filled a (n + k) (beside (now (t .entry)) (now (u .entry)) n) (now (out .exit)) ⌝ }
+// The rows of u beside those of t, in t: the direct sum of their matrices.
+pub fn join(t: &mut Table, u: &Table, a: usize, n: usize, k: usize)
+    requires { ⌜ (a ≤ blocks) × (n < width) × (n + k ≤ width) × ((l j : ℕ) → l < a → j < k → at (now u) l j < 2 ^ k) × (length (now t) ≡ size) ⌝ }
+    ensures { λ r. ⌜ Filled a (n + k) (beside (now (t .entry)) (now (u .entry)) n) (now (t .exit)) ⌝ }
 {
     let mut l: usize = 0;
     while l < a {
-        join_block(t, u, out, n, k, l);
+        join_block(t, u, n, k, l);
         l += 1;
     }
 }
@@ -155,22 +142,15 @@ pub enum Verdict {
     Differs { row: usize, first: bool },
 }
 
-// Compares the words of two automata over the same letters. Table s is for work; b is left with the words of the rows.
-pub fn compare(
-    t: &Table,
-    g: Machine,
-    u: &Table,
-    h: Machine,
-    s: &mut Table,
-    b: &mut Table,
-) -> Verdict
-    requires { ⌜ Valid (now t) g × Valid (now u) h × (h .letters ≡ g .letters) × (g .states < width) × (g .states + h .states ≤ width) × (length (now s) ≡ size) × (length (now b) ≡ size) ⌝ }
+// Compares the words of two automata over the same letters. Table t gains the rows of u; b is left with the words of the rows.
+pub fn compare(t: &mut Table, g: Machine, u: &Table, h: Machine, b: &mut Table) -> Verdict
+    requires { ⌜ Valid (now t) g × Valid (now u) h × (h .letters ≡ g .letters) × (g .states < width) × (g .states + h .states ≤ width) × (length (now b) ≡ size) ⌝ }
     ensures { λ r. ⌜ Judged (g .letters) (automatonIn (now (t .entry)) g) (automatonIn (now (u .entry)) h) (now (b .exit)) r ⌝ }
 {
     let n = g.states;
     let k = h.states;
     let a = g.letters;
-    join(t, u, s, a, n, k);
+    join(t, u, a, n, k);
     let i = rows::moved(h.initial, n);
     let f = rows::moved(h.finals, n);
     let initial = rows::xor(g.initial, i);
@@ -181,7 +161,7 @@ pub fn compare(
         initial: initial,
         finals: finals,
     };
-    let found = first_accepted(s, m, b);
+    let found = first_accepted(t, m, b);
     let Hunt::Found(r) = found else {
         return Verdict::Same;
     };

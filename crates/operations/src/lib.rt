@@ -80,15 +80,15 @@ fn machine(states: usize, letters: usize, initial: Row, finals: Row) -> Machine
     }
 }
 
-// Two automata over the same letters side by side, the rows in s.
-fn add(t: &Table, g: Machine, u: &Table, h: Machine, s: &mut Table) -> Machine
-    requires { ⌜ Valid (now t) g × Valid (now u) h × (h .letters ≡ g .letters) × (g .states < width) × (g .states + h .states ≤ width) × (length (now s) ≡ size) ⌝ }
-    ensures { λ r. ⌜ Built (g .letters) (symmetricDifference (accepts (automatonIn (now (t .entry)) g)) (accepts (automatonIn (now (u .entry)) h))) (now (s .exit)) r ⌝ }
+// Two automata over the same letters side by side, the rows in t.
+fn add(t: &mut Table, g: Machine, u: &Table, h: Machine) -> Machine
+    requires { ⌜ Valid (now t) g × Valid (now u) h × (h .letters ≡ g .letters) × (g .states < width) × (g .states + h .states ≤ width) ⌝ }
+    ensures { λ r. ⌜ Built (g .letters) (symmetricDifference (accepts (automatonIn (now (t .entry)) g)) (accepts (automatonIn (now (u .entry)) h))) (now (t .exit)) r ⌝ }
 {
     let n = g.states;
     let k = h.states;
     let a = g.letters;
-    comparison::join(t, u, s, a, n, k);
+    comparison::join(t, u, a, n, k);
     let i = rows::moved(h.initial, n);
     let f = rows::moved(h.finals, n);
     let initial = rows::xor(g.initial, i);
@@ -118,11 +118,10 @@ fn add_records(first: &[u8], second: &[u8], s: &mut Table) -> Machine
     requires { ⌜ Operands (now first) (now second) × (length (now s) ≡ size) ⌝ }
     ensures { λ r. ⌜ Built (lettersOf (now (first .entry))) (symmetricDifference (languageOf (now (first .entry))) (languageOf (now (second .entry)))) (now (s .exit)) r ⌝ }
 {
-    let mut t = [0u64; 512];
     let mut u = [0u64; 512];
-    let g = record::read(first, &mut t);
+    let g = record::read(first, s);
     let h = record::read(second, &mut u);
-    add(&t, g, &u, h, s)
+    add(s, g, &u, h)
 }
 
 // A well-formed record beside the automaton of every word, its rows in s.
@@ -130,9 +129,8 @@ fn invert_record(bytes: &[u8], s: &mut Table) -> Machine
     requires { ⌜ WellFormed (now bytes) × (length (now s) ≡ size) ⌝ }
     ensures { λ r. ⌜ Built (lettersOf (now (bytes .entry))) (complement (languageOf (now (bytes .entry)))) (now (s .exit)) r ⌝ }
 {
-    let mut t = [0u64; 512];
     let mut u = [0u64; 512];
-    let g = record::read(bytes, &mut t);
+    let g = record::read(bytes, s);
     let a = g.letters;
     let one = rows::unit(0);
     all_words(&mut u, a, one);
@@ -142,7 +140,7 @@ fn invert_record(bytes: &[u8], s: &mut Table) -> Machine
         initial: one,
         finals: one,
     };
-    add(&t, g, &u, h, s)
+    add(s, g, &u, h)
 }
 
 // A well-formed record transposed, its initial and final states exchanged, its rows in s.

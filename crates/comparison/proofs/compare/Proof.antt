@@ -26,13 +26,13 @@ ends c =
     let a = c .before .before .before .before .before .before .args in
     (c .before .xor .ensures ∙ ap (bitXor (mask (a .g .initial))) (c .before .before .before .moved .ensures), c .xor2 .ensures ∙ ap (bitXor (mask (a .g .finals))) (c .before .before .moved2 .ensures))
 
-ended : (c : tie.After-first-accepted) → Ended (c .before .before .before .before .before .before .before .before .before .args .g .letters) (c .before .before .before .before .before .before .before .join .last .1 .1 .0) (c .before .before .before .before .before .before .before .before .before .args .g .states + c .before .before .before .before .before .before .before .before .before .args .h .states) (bitXor (mask (c .before .before .before .before .before .before .before .before .before .args .g .initial)) (mask (c .before .before .before .before .before .before .before .before .before .args .h .initial) * 2 ^ c .before .before .before .before .before .before .before .before .before .args .g .states)) (bitXor (mask (c .before .before .before .before .before .before .before .before .before .args .g .finals)) (mask (c .before .before .before .before .before .before .before .before .before .args .h .finals) * 2 ^ c .before .before .before .before .before .before .before .before .before .args .g .states)) (c .first-accepted .last .1 .1 .0) (c .first-accepted .result)
+ended : (c : tie.After-first-accepted) → Ended (c .before .before .before .before .before .before .before .before .before .args .g .letters) (c .before .before .before .before .before .before .before .join .last .0) (c .before .before .before .before .before .before .before .before .before .args .g .states + c .before .before .before .before .before .before .before .before .before .args .h .states) (bitXor (mask (c .before .before .before .before .before .before .before .before .before .args .g .initial)) (mask (c .before .before .before .before .before .before .before .before .before .args .h .initial) * 2 ^ c .before .before .before .before .before .before .before .before .before .args .g .states)) (bitXor (mask (c .before .before .before .before .before .before .before .before .before .args .g .finals)) (mask (c .before .before .before .before .before .before .before .before .before .args .h .finals) * 2 ^ c .before .before .before .before .before .before .before .before .before .args .g .states)) (c .first-accepted .last .1 .1 .0) (c .first-accepted .result)
 ended c =
     let e = ends (c .before .before .before) in
     rw (e .0, e .1) at (c .first-accepted .ensures)
 
 join-requires : tie.Need-join-requires
-join-requires c κs = let s = c .before in (s .pre .0 .letters, s .pre .3, s .pre .4, second s .rows, s .pre .5)
+join-requires c κs = let s = c .before in (s .pre .0 .letters, s .pre .3, s .pre .4, second s .rows, s .pre .0 .size)
 
 moved-requires : tie.Need-moved-requires
 moved-requires c κs =
@@ -52,15 +52,15 @@ xor-requires c κs = search needs
 xor-requires-2 : tie.Need-xor-requires-2
 xor-requires-2 c κs = search needs
 
-add-t20 : tie.Need-add-t20
-add-t20 c = search needs
+add-t19 : tie.Need-add-t19
+add-t19 c = search needs
 
 first-accepted-requires : tie.Need-first-accepted-requires
 first-accepted-requires c κs =
     let s = c .before .before .before .before .before .before .before .before in
     let a = s .args in
     let e = ends (c .before .before) in
-    (rw (e .0, e .1) (sum-bounded (a .g .letters) (a .t .now) (a .g .states) (mask (a .g .initial)) (mask (a .g .finals)) (a .u .now) (a .h .states) (mask (a .h .initial)) (mask (a .h .finals)) (s .pre .0) (second s) (c .before .before .before .before .before .before .join .last .1 .1 .0) (c .before .before .before .before .before .before .join .ensures) (s .pre .4)), s .pre .6)
+    (rw (e .0, e .1) (sum-bounded (a .g .letters) (a .t .now) (a .g .states) (mask (a .g .initial)) (mask (a .g .finals)) (a .u .now) (a .h .states) (mask (a .h .initial)) (mask (a .h .finals)) (s .pre .0) (second s) (c .before .before .before .before .before .before .join .last .0) (c .before .before .before .before .before .before .join .ensures) (s .pre .4)), s .pre .5)
 
 enum-known-found : tie.Need-enum-known-found
 enum-known-found c = search needs
@@ -73,7 +73,7 @@ returns c =
     let s = c .before .before .before .before .before .before .before .before .before .before .before in
     let a = s .args in
     let f = c .before .before .first-accepted in
-    judged-same (a .g .letters) (a .t .now) (a .g .states) (mask (a .g .initial)) (mask (a .g .finals)) (a .u .now) (a .h .states) (mask (a .h .initial)) (mask (a .h .finals)) (s .pre .0) (second s) (c .before .before .before .before .before .before .before .before .before .join .last .1 .1 .0) (c .before .before .before .before .before .before .before .before .before .join .ensures) (s .pre .4) (f .last .1 .1 .0) (c .enum-told .given .0 .0 .count) (mask (c .enum-told .given .0 .0 .pivots)) (rw (c .enum-told .given .1) at (ended (c .before .before)))
+    judged-same (a .g .letters) (a .t .now) (a .g .states) (mask (a .g .initial)) (mask (a .g .finals)) (a .u .now) (a .h .states) (mask (a .h .initial)) (mask (a .h .finals)) (s .pre .0) (second s) (c .before .before .before .before .before .before .before .before .before .join .last .0) (c .before .before .before .before .before .before .before .before .before .join .ensures) (s .pre .4) (f .last .1 .1 .0) (c .enum-told .given .0 .0 .count) (mask (c .enum-told .given .0 .0 .pivots)) (rw (c .enum-told .given .1) at (ended (c .before .before)))
 
 load-requires : tie.Need-load-requires
 load-requires c κs =
@@ -81,7 +81,7 @@ load-requires c κs =
     let a = s .args in
     let n = a .g .states in (
       omega arith,
-      stopped-bound (a .g .letters) (c .before .before .before .before .before .before .before .before .before .before .before .join .last .1 .1 .0) (n + a .h .states) (bitXor (mask (a .g .initial)) (mask (a .h .initial) * 2 ^ n)) (bitXor (mask (a .g .finals)) (mask (a .h .finals) * 2 ^ n)) (c .before .before .before .before .first-accepted .last .1 .1 .0) (c .before .before .found .given .0 .0)
+      stopped-bound (a .g .letters) (c .before .before .before .before .before .before .before .before .before .before .before .join .last .0) (n + a .h .states) (bitXor (mask (a .g .initial)) (mask (a .h .initial) * 2 ^ n)) (bitXor (mask (a .g .finals)) (mask (a .h .finals) * 2 ^ n)) (c .before .before .before .before .first-accepted .last .1 .1 .0) (c .before .before .found .given .0 .0)
           (s .pre .4) (rw (c .before .before .found .given .1) at (ended (c .before .before .before .before))),
     )
 
@@ -94,7 +94,7 @@ returns-2 c =
     let a = s .args in
     let f = c .before .before .before .before .before .before .first-accepted in
     let r = c .before .before .before .before .found .given .0 .0 in
-    judged-differs (a .g .letters) (a .t .now) (a .g .states) (mask (a .g .initial)) (mask (a .g .finals)) (a .u .now) (a .h .states) (mask (a .h .initial)) (mask (a .h .finals)) (s .pre .0) (second s) (c .before .before .before .before .before .before .before .before .before .before .before .before .before .join .last .1 .1 .0) (c .before .before .before .before .before .before .before .before .before .before .before .before .before .join .ensures) (s .pre .4) (f .last .1 .1 .0) r (c .parity .result)
+    judged-differs (a .g .letters) (a .t .now) (a .g .states) (mask (a .g .initial)) (mask (a .g .finals)) (a .u .now) (a .h .states) (mask (a .h .initial)) (mask (a .h .finals)) (s .pre .0) (second s) (c .before .before .before .before .before .before .before .before .before .before .before .before .before .join .last .0) (c .before .before .before .before .before .before .before .before .before .before .before .before .before .join .ensures) (s .pre .4) (f .last .1 .1 .0) r (c .parity .result)
     (c .parity .ensures (a .g .states) (s .pre .0 .finals) ∙ ap (λ x. xorBelow (a .g .states) (λ j. bitOf (mask (a .g .finals)) j && bitOf x j)) (c .before .load .ensures))
     (rw (c .before .before .before .before .found .given .1) at (ended (c .before .before .before .before .before .before)))
 
@@ -107,7 +107,7 @@ compare-spec =
     moved-requires-2
     xor-requires
     xor-requires-2
-    add-t20
+    add-t19
     first-accepted-requires
     enum-known-found
     enum-told

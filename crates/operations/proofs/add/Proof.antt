@@ -14,7 +14,7 @@ second : (s : tie.Start) → Bounded (s .args .g .letters) (s .args .u .now) (s 
 second s = subst (λ a. Bounded a (s .args .u .now) (s .args .h .states) (mask (s .args .h .initial)) (mask (s .args .h .finals))) (s .pre .2) (s .pre .1)
 
 join-requires : tie.Need-join-requires
-join-requires c κs = let s = c .before in (s .pre .0 .letters, s .pre .3, s .pre .4, second s .rows, s .pre .5)
+join-requires c κs = let s = c .before in (s .pre .0 .letters, s .pre .3, s .pre .4, second s .rows, s .pre .0 .size)
 
 moved-requires : tie.Need-moved-requires
 moved-requires c κs =
@@ -34,15 +34,15 @@ xor-requires c κs = search needs
 xor-requires-2 : tie.Need-xor-requires-2
 xor-requires-2 c κs = search needs
 
-add-t15 : tie.Need-add-t15
-add-t15 c = search needs
+add-t14 : tie.Need-add-t14
+add-t14 c = search needs
 
 returns : tie.Need-returns
 returns c =
     let s = c .before .before .before .before .before .before in
     let a = s .args in
     let j = c .before .before .before .before .join in
-    sum-built (a .t .now) (a .u .now) (j .last .1 .1 .0) (a .g) (a .h) (s .pre .0) (second s) (j .ensures) (s .pre .4) _ refl refl
+    sum-built (a .t .now) (a .u .now) (j .last .0) (a .g) (a .h) (s .pre .0) (second s) (j .ensures) (s .pre .4) _ refl refl
     (c .before .xor .ensures ∙ ap (bitXor (mask (a .g .initial))) (c .before .before .before .moved .ensures))
     (c .xor2 .ensures ∙ ap (bitXor (mask (a .g .finals))) (c .before .before .moved2 .ensures))
 
@@ -55,5 +55,5 @@ add-spec =
     moved-requires-2
     xor-requires
     xor-requires-2
-    add-t15
+    add-t14
     returns)

@@ -16,9 +16,9 @@ read-requires-2 c κs = search needs
 
 add-requires : tie.Need-add-requires
 add-requires c κs =
-    let s = c .before .before .before .before .before .before .before .before .before in
-    let g = c .before .before .before .before .before .read .ensures in
-    let h = c .before .before .before .read2 .ensures in
+    let s = c .before .before .before .before .before .before .before .before in
+    let g = c .before .before .before .before .read .ensures in
+    let h = c .before .before .read2 .ensures in
     let f = good-check _ (s .pre .0 .0) .front in
     let k = good-check _ (s .pre .0 .1) .front in (
       g .valid,
@@ -26,15 +26,14 @@ add-requires c κs =
       h .letters ∙ sym (s .pre .0 .2) ∙ sym (g .letters),
       omega (arith, g .states, f .states),
       omega (arith, g .states, f .states, h .states, k .states),
-      s .pre .1,
     )
 
 returns : tie.Need-returns
 returns c =
-    let s = c .before .before .before .before .before .before .before .before .before .before in
-    let g = c .before .before .before .before .before .before .read in
-    let h = c .before .before .before .before .read2 in
-    sum-held (now (s .args .first)) (now (s .args .second)) (g .last .1 .0) (h .last .1 .0) (c .add .last .1 .1 .1 .1 .0) (g .result) (h .result) (c .add .result) (s .pre .0 .2) (g .ensures) (h .ensures) (c .add .ensures)
+    let s = c .before .before .before .before .before .before .before .before .before in
+    let g = c .before .before .before .before .before .read in
+    let h = c .before .before .before .read2 in
+    sum-held (now (s .args .first)) (now (s .args .second)) (g .last .1 .0) (h .last .1 .0) (c .add .last .0) (g .result) (h .result) (c .add .result) (s .pre .0 .2) (g .ensures) (h .ensures) (c .add .ensures)
 
 pub add-records-spec : {M : Type 1} → statement M
 add-records-spec = tie.close (tie.spec read-requires read-requires-2 add-requires returns)

@@ -21,11 +21,11 @@ all-words-requires c κs = search needs
 
 add-requires : tie.Need-add-requires
 add-requires c κs =
-    let s = c .before .before .before .before .before .before .before .before .before in
-    let r = c .before .before .before .before .before .before .read in
+    let s = c .before .before .before .before .before .before .before .before in
+    let r = c .before .before .before .before .before .read in
     let g = r .ensures in
-    let one = c .before .before .before .before .before .unit in
-    let u = c .before .before .before .all-words in
+    let one = c .before .before .before .before .unit in
+    let u = c .before .before .all-words in
     let e : mask (one .result) ≡ 1 = one .ensures in
     let f = good-check _ (s .pre .0) .front in (
       g .valid,
@@ -33,16 +33,15 @@ add-requires c κs =
       refl,
       omega (arith, g .states, f .states),
       omega (arith, g .states, f .states),
-      s .pre .1,
     )
 
 returns : tie.Need-returns
 returns c =
-    let s = c .before .before .before .before .before .before .before .before .before .before in
-    let g = c .before .before .before .before .before .before .before .read in
-    let one = c .before .before .before .before .before .before .unit in
-    let u = c .before .before .before .before .all-words in
-    complement-held (now (s .args .bytes)) (g .last .1 .0) (u .last .0) (c .add .last .1 .1 .1 .1 .0) (g .result) (c .add .result) (mask (one .result)) (one .ensures) (g .ensures) (u .ensures) (c .add .ensures)
+    let s = c .before .before .before .before .before .before .before .before .before in
+    let g = c .before .before .before .before .before .before .read in
+    let one = c .before .before .before .before .before .unit in
+    let u = c .before .before .before .all-words in
+    complement-held (now (s .args .bytes)) (g .last .1 .0) (u .last .0) (c .add .last .0) (g .result) (c .add .result) (mask (one .result)) (one .ensures) (g .ensures) (u .ensures) (c .add .ensures)
 
 pub invert-record-spec : {M : Type 1} → statement M
 invert-record-spec = tie.close (tie.spec read-requires unit-requires all-words-requires add-requires returns)
