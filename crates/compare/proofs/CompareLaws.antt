@@ -27,7 +27,7 @@ use Rattle.compare.specs.declared.Side.{Side}
 use Rattle.compare.specs.declared.Compared.{Compared}
 use Rattle.compare.specs.declared.Compared.the-variants.{Same as IsSame, Differs, Refused}
 
-clash : {X : Type 0} → _≡_ {A = ℕ} 0 1 → X
+pub clash : {X : Type 0} → _≡_ {A = ℕ} 0 1 → X
 clash z = absurd (omega arith)
 
 -- ---- the cases of the outcome

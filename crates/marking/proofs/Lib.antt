@@ -5,3 +5,5 @@ pub mod Building
 pub mod Verdicts
 pub mod Readable
 pub mod ToldLaws
+pub mod EndToEnd
+pub mod Bound

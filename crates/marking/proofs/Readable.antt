@@ -8,11 +8,9 @@ use lib.Dec.{ltb}
 use Rattle.text.specs.Text.{ascii, digit, figures, decimal, wordText}
 use Rattle.text.proofs.Decimal.{decimal-injective}
 use Rattle.compare.specs.declared.Side.{Side}
+use Rattle.compare.proofs.CompareLaws.{clash}
 use Rattle.compare.specs.declared.Side.the-variants.{First, Second}
 use Rattle.marking.specs.Lines.{opening, dimLine, sameLine, acceptedBy, differLine}
-
-clash : {X : Type 0} → _≡_ {A = ℕ} 0 1 → X
-clash z = absurd (omega arith)
 
 -- ---- no figure is a space
 

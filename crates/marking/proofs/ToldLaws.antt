@@ -14,7 +14,7 @@ use Rattle.operands.proofs.PairLaws.{both-pass}
 use Rattle.compare.specs.Compare.{differenceOf, sideOf, acceptorOf}
 use Rattle.compare.specs.declared.Side.{Side}
 use Rattle.compare.specs.declared.Side.the-variants.{First, Second}
-use Rattle.compare.proofs.CompareLaws.{accepted}
+use Rattle.compare.proofs.CompareLaws.{clash, accepted}
 use Rattle.script.specs.Script.{partAt, afterPart}
 use Rattle.script.proofs.Parts.{whole-stands}
 use Rattle.marking.specs.Lines.{keyLine, sameLine, differLine}
@@ -23,9 +23,6 @@ use Rattle.marking.specs.Told.{RecordAt, HasDimension, KeyTold, Differ, 
 use Rattle.marking.proofs.Cases.{key-good, line-key, line-answer}
 use Rattle.marking.proofs.Verdicts.{answer-same, answer-differs}
 use Rattle.marking.proofs.Readable.{dim-injective, differ-injective, not-both}
-
-clash : {X : Type 0} → _≡_ {A = ℕ} 0 1 → X
-clash z = absurd (omega arith)
 
 -- The dimension of a record is the one that its lines show.
 shown : (bs : List ℕ) (d : ℕ) → HasDimension bs d → dimensionIn bs ≡ d

@@ -19,6 +19,7 @@ use Rattle.script.specs.declared.Part.the-variants.{Whole}
 use Rattle.marking.specs.Lines.{keyLine, sameLine, differLine}
 use Rattle.marking.specs.Marking.{placeOf}
 
+-- Of a key and answers end to end, the record of index 0 is the key, and that of index i + 1 the answer i (proofs/EndToEnd).
 pub record RecordAt (s : List ℕ) (index : ℕ) (bs : List ℕ) : Type 0 where
   pub start : ℕ
   pub next : ℕ

@@ -1,4 +1,4 @@
--- What a call that grants wrote lies within the buffer.
+-- What a call that grants wrote: as many bytes as it answers, within the buffer.
 use mathlib.Core.Path.{_≡_, refl}
 use mathlib.Core.Bool.{Bool, true, false, cond}
 use mathlib.Core.List.{List}
@@ -10,10 +10,10 @@ use lib.ListN.{length}
 use Rattle.record.specs.Outcome.{refused, wrote, answerOf, fit}
 use Rattle.record.specs.declared.Written.the-variants.{Done}
 
-pub granted-within : (room n : ℕ) (out : List ℕ) → answerOf (fit room out) ≡ Done n → n ≤ room
+pub granted : (room n : ℕ) (out : List ℕ) → answerOf (fit room out) ≡ Done n → (n ≡ length out) × (n ≤ room)
 unfolding fit
-granted-within room n out e = go (ltb room (length out)) refl e
+granted room n out e = go (ltb room (length out)) refl e
   where
-    go : (b : Bool) → ltb room (length out) ≡ b → answerOf (cond b (refused 12 0 (length out)) (wrote out)) ≡ Done n → n ≤ room
+    go : (b : Bool) → ltb room (length out) ≡ b → answerOf (cond b (refused 12 0 (length out)) (wrote out)) ≡ Done n → (n ≡ length out) × (n ≤ room)
     go true h q = let z : _≡_ {A = ℕ} 0 1 = cc in absurd (omega arith)
-    go false h q = let z : length out ≡ n = cc in omega (arith, ltb-false room (length out) h)
+    go false h q = let z : n ≡ length out = cc in (z, omega (arith, ltb-false room (length out) h))

@@ -1,7 +1,10 @@
 // The marking program's part that reads a script and prints its lines, one after another. No contract can say what is read or written:
-// what is proved here is that each line printed is that of the next index, and that every line fits.
+// what is proved here is that each line printed is that of the next index, and that printing goes on while there is a line.
 ghost use mathlib.Core.Path.{_≡_};
-ghost use Rattle.marking.specs.Marking.{placeOf};
+ghost use mathlib.Core.Bool.{true};
+ghost use Prim.Native.Nat.{_<_};
+ghost use lib.ListN.{length};
+ghost use Rattle.marking.specs.Marking.{placeOf, markLine};
 use libc::STDIN_FILENO;
 use libc::STDOUT_FILENO;
 use record::Written;
@@ -9,12 +12,10 @@ use record::Written;
 // A script has at most 65,536 bytes. One byte more is read, and marking then says that the script is too long.
 const READ: usize = 65537;
 
-// A record has at least 15 bytes, so a script has at most 4,370 lines, the last a refusal.
-const LINES: usize = 4370;
-
-// Prints the line of an index, whose record stands at a position, and answers whether there is one.
+// Prints the line of an index, whose record stands at a position; false where there is none, or the output is closed.
 fn print_line(script: &[u8], index: usize, at: usize) -> bool
     requires { ⌜ at ≡ placeOf (now script) index ⌝ }
+    ensures { λ r. ⌜ (r ≡ true → 0 < length (markLine (now (script .entry)) index)) ⌝ }
 {
     let mut line = [0u8; 160];
     let Written::Done { length } = marking::line_at(script, index, at, &mut line) else {
@@ -30,10 +31,7 @@ fn print_line(script: &[u8], index: usize, at: usize) -> bool
 fn print_lines(script: &[u8]) {
     let mut at = 0;
     let mut index = 0;
-    while index < LINES {
-        if !print_line(script, index, at) {
-            return;
-        }
+    while print_line(script, index, at) {
         at = marking::past(script, index, at);
         index += 1;
     }
