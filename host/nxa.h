@@ -34,7 +34,7 @@ extern "C" {
 #define NXA_WORD_MAX 63      /* letters of the longest word that a comparison writes */
 #define NXA_CATALOGUE_LAST 5 /* the catalogue's last number */
 #define NXA_SCRIPT_MAX 65536 /* bytes of the longest script that is marked */
-#define NXA_LINE_MAX 107     /* bytes of the longest line of a marking, its end included */
+#define NXA_LINE_MAX 160     /* bytes that are enough for every line of a marking */
 
 /* Bytes of stack that are enough in all for a thread that calls any service. No service calls itself, so each has a deepest point; the
  * deepest was measured below 30 KiB. The rest is a margin for the thread's own data, its callers and a signal's handler. */

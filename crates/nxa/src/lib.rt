@@ -19,7 +19,8 @@ ghost use Rattle.compare.specs.Compare.{differenceOf, compareOutcome, acceptorO
 ghost use Rattle.compare.specs.declared.Side.{Side};
 ghost use Rattle.operations.specs.Operations.{sumOutcome, complementOutcome, mirrorOutcome, MinimalRecord, Operands, Limits};
 ghost use Rattle.intersection.specs.Meet.{maxProduct, meetOutcome, DimensionProduct, Small};
-ghost use Rattle.marking.specs.Marking.{maxScript, markOutcome};
+ghost use Rattle.marking.specs.Lines.{longest};
+ghost use Rattle.marking.specs.Marking.{maxScript, markLine, markOutcome};
 ghost use Rattle.marking.specs.Told.{Told};
 ghost use Rattle.catalogue.specs.Words.{wordsOf};
 ghost use Rattle.catalogue.specs.Entries.{lettersAt, catalogueOf};
@@ -278,6 +279,7 @@ pub extern "C" fn nxa_catalogue(number: usize, out: &mut [u8]) -> Reply
 }
 
 // Writes the line of a script's record by its index, or no bytes where marking ends before it; it refuses only with 12.
+// `room`: 160 bytes are enough for every line.
 // `told`: where number is 0, the first `length` bytes of the buffer tell of all words what 01 asks. The key's line has the dimension of
 // its language. An answer's line says `same` exactly when the key accepts the same words; otherwise its word is the first in shortlex
 // order that just one of the two accepts, the one named accepts it, and the dimension is the answer's own.
@@ -285,6 +287,7 @@ pub extern "C" fn nxa_catalogue(number: usize, out: &mut [u8]) -> Reply
 pub extern "C" fn nxa_mark(script: &[u8], index: usize, out: &mut [u8]) -> Reply
     ensures reply { λ r. ⌜ r ≡ ofWritten (answerOf (markOutcome (now (script .entry)) index (length (now (out .entry))))) ⌝ }
     ensures buffer { λ _. ⌜ now (out .exit) ≡ bufferOf (markOutcome (now (script .entry)) index (length (now (out .entry)))) (now (out .entry)) ⌝ }
+    ensures room { λ _. ⌜ length (markLine (now (script .entry)) index) ≤ longest ⌝ }
     ensures told { λ r. ⌜ (length (now (script .entry)) ≤ maxScript → r .number ≡ 0 → Told (now (script .entry)) index (take (r .length) (now (out .exit)))) ⌝ }
 {
     of_written(marking::mark(script, index, out))

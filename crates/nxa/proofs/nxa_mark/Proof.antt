@@ -27,7 +27,7 @@ returns c =
     let r = c .of-written .result in
     let told = c .of-written .ensures in
     let done = written-granted (markOutcome s (a .index) room) (w .result) r (mark-reasoned s (a .index) room) (w .ensures .0) told in
-    (told ∙ ap ofWritten (w .ensures .0), (w .ensures .1 .0, λ short e. w .ensures .1 .1 short (r .length) (done e)))
+    (told ∙ ap ofWritten (w .ensures .0), (w .ensures .1 .0, (w .ensures .1 .1 .0, λ short e. w .ensures .1 .1 .1 short (r .length) (done e))))
 
 pub nxa-mark-spec : {M : Type 1} → statement M
 nxa-mark-spec = tie.close (tie.spec mark-requires of-written-requires same-length returns)
