@@ -19,7 +19,7 @@ import operator
 import os
 from typing import List, NamedTuple, Optional, Sequence, Union
 
-__all__ = ["Refused", "Minimal", "Comparison", "RECORD_MAX", "WORD_MAX", "HAS_MARK", "check", "rewrite", "test", "minimal", "compare",
+__all__ = ["Refused", "Minimal", "Comparison", "RECORD_MAX", "WORD_MAX", "check", "rewrite", "test", "minimal", "compare",
            "sum", "meet", "complement", "mirror", "catalogue", "mark", "mark_line"]
 
 RECORD_MAX = 1039  # bytes of the longest record
@@ -91,8 +91,6 @@ _SIZE_MAX = ctypes.c_size_t(-1).value
 
 _library = ctypes.CDLL(os.environ.get("NXA_LIBRARY", "libnxa.so.1"))
 
-HAS_MARK = hasattr(_library, "nxa_mark")  # whether this shared object can mark scripts
-
 
 def _service(name, *parameters):
     function = getattr(_library, name)
@@ -111,7 +109,7 @@ _meet = _service("nxa_meet", _SLICE, _SLICE, _LENT)
 _complement = _service("nxa_complement", _SLICE, _LENT)
 _mirror = _service("nxa_mirror", _SLICE, _LENT)
 _catalogue = _service("nxa_catalogue", [ctypes.c_size_t], _LENT)
-_mark = _service("nxa_mark", _SLICE, [ctypes.c_size_t], _LENT) if HAS_MARK else None
+_mark = _service("nxa_mark", _SLICE, [ctypes.c_size_t], _LENT)
 
 
 # ---- what goes in and what comes out
@@ -209,8 +207,6 @@ def catalogue(number: int, room: int = RECORD_MAX) -> bytes:
 def mark_line(script: Bytes, index: int, room: Optional[int] = None) -> Optional[str]:
     """Gives the line of the record with this index in a script, without its line end, or None if marking ends before it. Refused 12,
     only where a room is given."""
-    if _mark is None:
-        raise NotImplementedError("this shared object cannot mark scripts")
     arguments = [*_slices(_bytes(script)), _size(index)]
     try:
         written = _written(_mark, arguments, LINE_ROOM if room is None else room)[1]

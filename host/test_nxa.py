@@ -208,7 +208,6 @@ class Arguments(Desk):
         self.assertEqual(lent, X12)
 
 
-@unittest.skipUnless(nxa.HAS_MARK, "the shared object has no nxa_mark")
 class Marking(Desk):
     def test_sample(self):
         script = nxa.catalogue(4) + X12 + nxa.catalogue(1)

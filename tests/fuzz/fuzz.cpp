@@ -14,12 +14,8 @@ using drive::Run;
 using drive::Word;
 using second::Machine;
 
-#ifdef WITH_MARK
 constexpr std::size_t services = 11;
 constexpr std::size_t ample_line = 120;
-#else
-constexpr std::size_t services = 10;
-#endif
 
 // The fuzzer's bytes, one after another; zeros when they are used up.
 class Source {
@@ -207,7 +203,6 @@ void catalogue(Source& source)
     run.catalogue(nxa_catalogue, number, source.below(50));
 }
 
-#ifdef WITH_MARK
 Bytes script(Source& source)
 {
     const Bytes key = any_record(source, letter_count(source));
@@ -235,7 +230,6 @@ void mark(Source& source)
     const std::size_t needed = run.mark(nxa_mark, whole, index, ample_line).reply.length;
     run.mark(nxa_mark, whole, index, lent_size(source, needed));
 }
-#endif
 
 }  // namespace
 
@@ -253,9 +247,7 @@ extern "C" int LLVMFuzzerTestOneInput(const std::uint8_t* bytes, std::size_t siz
     case 7: one(source, "complement", nxa_complement, second::complement); break;
     case 8: one(source, "mirror", nxa_mirror, second::mirror); break;
     case 9: catalogue(source); break;
-#ifdef WITH_MARK
     case 10: mark(source); break;
-#endif
     }
     return 0;
 }

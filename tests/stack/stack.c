@@ -128,12 +128,10 @@ static nxa_reply call_catalogue(const request *r, uint8_t *out)
     return nxa_catalogue(r->number, out, OUT_MAX);
 }
 
-#ifdef WITH_MARK
 static nxa_reply call_mark(const request *r, uint8_t *out)
 {
     return nxa_mark(r->first, r->first_len, r->number, out, OUT_MAX);
 }
-#endif
 
 typedef enum { RECORDS, WORDS, PAIRS, NUMBERS, SCRIPTS } inputs;
 
@@ -154,9 +152,7 @@ static const service services[] = {
     {"complement", call_complement, RECORDS},
     {"mirror", call_mirror, RECORDS},
     {"catalogue", call_catalogue, NUMBERS},
-#ifdef WITH_MARK
     {"mark", call_mark, SCRIPTS},
-#endif
 };
 
 /* ---- the requests of a service */

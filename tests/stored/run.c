@@ -193,23 +193,9 @@ static nxa_reply call(const stored_case *c, const input *in, uint8_t *out)
         return c->of->two(first, in[0].length, second, in[1].length, out, c->lent);
     case CATALOGUE:
         return nxa_catalogue(c->number, out, c->lent);
-    case MARK:
-#ifdef WITH_MARK
+    default:
         return nxa_mark(first, in[0].length, c->number, out, c->lent);
-#endif
-        break;
     }
-    return c->want;
-}
-
-static int waits(const stored_case *c)
-{
-#ifdef WITH_MARK
-    (void)c;
-    return 0;
-#else
-    return c->of->of == MARK;
-#endif
 }
 
 static uint8_t sentinel(size_t place)
@@ -261,7 +247,7 @@ int main(int argc, char **argv)
     static stored_case c;
     FILE *const file = argc > 1 ? fopen(argv[1], "r") : stdin;
     char *line = NULL;
-    size_t room = 0, cases = 0, waiting = 0, told = 0;
+    size_t room = 0, cases = 0, told = 0;
     if (file == NULL) {
         fail("the file cannot be read");
     }
@@ -274,18 +260,13 @@ int main(int argc, char **argv)
         } else if (line[0] != '#') {
             read_case(line, &c, &in[0], &in[1]);
             cases++;
-            if (waits(&c)) {
-                waiting++;
-            } else {
-                run_case(&c, in);
-            }
+            run_case(&c, in);
         }
     }
     if (told == 0 || told != cases) {
         fail("the file does not end as it should");
     }
     free(line);
-    printf("stored: %zu cases agree", cases - waiting);
-    printf(waiting > 0 ? ", %zu of marking wait\n" : "\n", waiting);
+    printf("stored: %zu cases agree\n", cases);
     return 0;
 }
