@@ -1,0 +1,79 @@
+// The machines that the benchmarks run on: random dense ones, sparse ones, the same language in another basis. Needs the yardstick's Machine.
+#ifndef MACHINES_HPP
+#define MACHINES_HPP
+
+#include <vector>
+
+typedef std::vector<u8> Bytes;
+
+static u64 seed = 20261115;
+
+static inline u64 random64() {
+    u64 z = (seed += 0x9E3779B97F4A7C15ull);
+    z = (z ^ z >> 30) * 0xBF58476D1CE4E5B9ull;
+    z = (z ^ z >> 27) * 0x94D049BB133111EBull;
+    return z ^ z >> 31;
+}
+
+static inline u64 random_row(int n, double density) {
+    u64 r = 0;
+    for (int i = 0; i < n; i++)
+        if ((random64() >> 11) * 0x1p-53 < density) r |= 1ull << i;
+    return r;
+}
+
+static inline Machine dense(int n, int a, double density = 0.5) {
+    Machine m;
+    m.n = n;
+    m.a = a;
+    m.I = random_row(n, density);
+    m.F = random_row(n, density);
+    for (int l = 0; l < a; l++)
+        for (int i = 0; i < n; i++) m.T[l][i] = random_row(n, density);
+    return m;
+}
+
+// Only 0^k, over a letters.
+static inline Machine only(int k, int a) {
+    Machine m;
+    m.n = k + 1;
+    m.a = a;
+    m.I = 1;
+    m.F = 1ull << k;
+    for (int l = 0; l < a; l++)
+        for (int i = 0; i <= k; i++) m.T[l][i] = l == 0 && i < k ? 2ull << i : 0;
+    return m;
+}
+
+// Nothing is accepted, though every row can be reached.
+static inline Machine no_final(Machine m) {
+    m.F = 0;
+    return m;
+}
+
+// The same language in another basis: state i gains state j.
+static inline void change_basis(Machine& m, int i, int j) {
+    auto column = [&](u64& v) { v ^= (v >> i & 1) << j; };
+    column(m.I);
+    m.F ^= (m.F >> j & 1) << i;
+    for (int l = 0; l < m.a; l++) {
+        for (int r = 0; r < m.n; r++) column(m.T[l][r]);
+        m.T[l][i] ^= m.T[l][j];
+    }
+}
+
+static inline Machine other_basis(Machine m) {
+    for (int k = 0; k < 6 * m.n && m.n > 1; k++) {
+        int i = random64() % m.n, j = random64() % m.n;
+        if (i != j) change_basis(m, i, j);
+    }
+    return m;
+}
+
+static inline Bytes record_of(const Machine& m) {
+    Bytes r(15 + 4 * m.a * m.n);
+    write_record(m, r.data());
+    return r;
+}
+
+#endif
