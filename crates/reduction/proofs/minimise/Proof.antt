@@ -1,4 +1,5 @@
 -- `minimise`: both tables hold mirrors, so the two reductions are those of the two passes.
+use native.Mathlib.Omega.{arith}
 use Rattle.rows.specs.Row.{mask}
 use Rattle.reduction.proofs.MinimiseLaws.{transposed-bounded, twice}
 use Rattle.reduction.proofs.minimise.Statement.{statement}
@@ -16,7 +17,7 @@ reduce-requires c κs =
 transpose-requires-2 : tie.Need-transpose-requires-2
 transpose-requires-2 c κs =
     let e = c .before .before .reduce .ensures .1 .bounded in
-    (e .letters, e .states, e .rows, c .before .before .before .before .before .before .before .before .transpose .ensures .size)
+    (e .letters, omega (arith, e .states), λ l i hl hi. omega (arith, e .rows l i hl (omega arith)), c .before .before .before .before .before .before .before .before .transpose .ensures .size)
 
 reduce-requires-2 : tie.Need-reduce-requires-2
 reduce-requires-2 c κs =
