@@ -85,5 +85,5 @@ pub fn give(number: usize, out: &mut [u8]) -> Written
     }
     let mut t = [0u64; 512];
     let m = load(number, &mut t);
-    record::write(&t, m, out)
+    codec::write(&t, m, out)
 }

@@ -68,8 +68,8 @@ pub fn judge(first: &[u8], second: &[u8], b: &mut Table) -> Verdict
 {
     let mut t = [0u64; 512];
     let mut u = [0u64; 512];
-    let g = record::read(first, &mut t);
-    let h = record::read(second, &mut u);
+    let g = codec::read(first, &mut t);
+    let h = codec::read(second, &mut u);
     comparison::compare(&mut t, g, &u, h, b)
 }
 

@@ -64,7 +64,7 @@ pub fn minimal_form(bytes: &[u8], out: &mut Table) -> Machine
     let mut u = [0u64; 512];
     let mut b = [0u64; 512];
     let mut c = [0u64; 512];
-    let m = record::read(bytes, &mut t);
+    let m = codec::read(bytes, &mut t);
     reduction::minimise(&t, m, &mut u, &mut b, &mut c, out)
 }
 
@@ -92,5 +92,5 @@ pub fn minimal(bytes: &[u8], out: &mut [u8]) -> Minimised
     let mut s = [0u64; 512];
     let m = minimal_form(bytes, &mut s);
     let d = m.states;
-    with_dimension(record::write(&s, m, out), d)
+    with_dimension(codec::write(&s, m, out), d)
 }

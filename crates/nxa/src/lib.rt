@@ -161,7 +161,7 @@ pub extern "C" fn nxa_rewrite(record: &[u8], out: &mut [u8]) -> Reply
     ensures reply { λ r. ⌜ r ≡ ofWritten (answerOf (rewriteOf (now («record» .entry)) (length (now (out .entry))))) ⌝ }
     ensures buffer { λ _. ⌜ now (out .exit) ≡ bufferOf (rewriteOf (now («record» .entry)) (length (now (out .entry)))) (now (out .entry)) ⌝ }
 {
-    of_written(record::rewrite(record, out))
+    of_written(codec::rewrite(record, out))
 }
 
 // Tests a word. Value 1: the record accepts it.

@@ -47,7 +47,7 @@ pub fn finish(t: &Table, m: Machine, out: &mut [u8]) -> Written
             place: d,
         };
     }
-    record::write(&s, g, out)
+    codec::write(&s, g, out)
 }
 
 // A refusal of the checks, as the answer of an operation.
@@ -119,8 +119,8 @@ fn add_records(first: &[u8], second: &[u8], s: &mut Table) -> Machine
     ensures { λ r. ⌜ Built (lettersOf (now (first .entry))) (symmetricDifference (languageOf (now (first .entry))) (languageOf (now (second .entry)))) (now (s .exit)) r ⌝ }
 {
     let mut u = [0u64; 512];
-    let g = record::read(first, s);
-    let h = record::read(second, &mut u);
+    let g = codec::read(first, s);
+    let h = codec::read(second, &mut u);
     add(s, g, &u, h)
 }
 
@@ -130,7 +130,7 @@ fn invert_record(bytes: &[u8], s: &mut Table) -> Machine
     ensures { λ r. ⌜ Built (lettersOf (now (bytes .entry))) (complement (languageOf (now (bytes .entry)))) (now (s .exit)) r ⌝ }
 {
     let mut u = [0u64; 512];
-    let g = record::read(bytes, s);
+    let g = codec::read(bytes, s);
     let a = g.letters;
     let one = rows::unit(0);
     all_words(&mut u, a, one);
@@ -149,7 +149,7 @@ fn turn_record(bytes: &[u8], s: &mut Table) -> Machine
     ensures { λ r. ⌜ Built (lettersOf (now (bytes .entry))) (reversal (languageOf (now (bytes .entry)))) (now (s .exit)) r ⌝ }
 {
     let mut t = [0u64; 512];
-    let g = record::read(bytes, &mut t);
+    let g = codec::read(bytes, &mut t);
     let n = g.states;
     let a = g.letters;
     let i = g.initial;

@@ -8,7 +8,7 @@ fn say(text: &[u8]) {
 pub fn rewrite(name: &[u8], bytes: &[u8]) {
     let mut out = [0u8; 1039];
     say(name);
-    show::written(record::rewrite(bytes, &mut out));
+    show::written(codec::rewrite(bytes, &mut out));
 }
 
 pub fn test(name: &[u8], bytes: &[u8], word: &[u8]) {

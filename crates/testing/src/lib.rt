@@ -74,7 +74,7 @@ pub fn test(bytes: &[u8], word: &[u8]) -> Tested
         return refused(c);
     };
     let mut t = [0u64; 512];
-    let m = record::read(bytes, &mut t);
+    let m = codec::read(bytes, &mut t);
     let w = check_word(word, m.letters);
     let Checked::Good = w else {
         return refused(w);

@@ -10,13 +10,13 @@ use lib.ListN.{length}
 use lib.Seq.{sets, length-sets}
 use Rattle.automata.specs.WordList.{joinBelow}
 use Rattle.rows.specs.Table.{at}
 use Rattle.record.specs.Record.{rowBytes, rowsAt}
 use Rattle.record.specs.Bytes.{allBytes}
 use Rattle.record.proofs.Refusals.{area}
 use Rattle.record.proofs.RowList.{row-lt}
 use Rattle.record.proofs.Stores.{row-stored}
-use Rattle.record.proofs.put_block.Statement.{statement}
-use Rattle.record.proofs.put_block.Tie as tie
+use Rattle.codec.proofs.put_block.Statement.{statement}
+use Rattle.codec.proofs.put_block.Tie as tie
 
 abbrev Inv-loop : tie.InvT-loop
 Inv-loop t l buf₀ n first i₀ buf i = (i ≤ n) × (buf ≡ sets buf₀ (rowsAt + rowBytes * first) (allBytes rowBytes (joinBelow i (λ j. at t l j ∷ []))))

@@ -5,14 +5,14 @@ use denote.Ref.{now}
 use lib.Pow.{pow-mono}
 use lib.ListN.{length}
 use Rattle.rows.specs.Machine.{automatonIn}
 use Rattle.record.specs.Record.{encode}
 use Rattle.record.specs.declared.Written.the-variants.{Done}
 use Rattle.record.proofs.Encode.{length-encode}
 use Rattle.record.proofs.Held.{written}
 use Rattle.record.proofs.Outcome.{fit-short, fit-done}
 use borrow.Author.Needs.{needs}
-use Rattle.record.proofs.write.Statement.{statement}
-use Rattle.record.proofs.write.Tie as tie
+use Rattle.codec.proofs.write.Statement.{statement}
+use Rattle.codec.proofs.write.Tie as tie
 
 length-of-requires : tie.Need-length-of-requires
 length-of-requires c κs = search needs

@@ -2,8 +2,8 @@
 use native.Mathlib.Omega.{arith}
 use lib.ListN.{length-set}
 use borrow.Author.Needs.{needs}
-use Rattle.record.proofs.put_head.Statement.{statement}
-use Rattle.record.proofs.put_head.Tie as tie
+use Rattle.codec.proofs.put_head.Statement.{statement}
+use Rattle.codec.proofs.put_head.Tie as tie
 
 slice-write-buf : tie.Need-slice-write-buf
 slice-write-buf c = search needs

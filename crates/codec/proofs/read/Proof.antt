@@ -3,12 +3,12 @@ use mathlib.Core.Path.{_≡_}
 use denote.Ref.{now}
 use Prim.Native.Nat.{_-_, _≤_}
 use native.Mathlib.Omega.{arith}
 use Rattle.record.specs.Record.{lettersOf}
 use Rattle.record.specs.Held.{Filled}
 use Rattle.record.proofs.Refusals.{Passed, good-check}
 use Rattle.record.proofs.Held.{filled-none, filled-letter, holds}
-use Rattle.record.proofs.read.Statement.{statement}
-use Rattle.record.proofs.read.Tie as tie
+use Rattle.codec.proofs.read.Statement.{statement}
+use Rattle.codec.proofs.read.Tie as tie
 
 abbrev Inv-loop : tie.InvT-loop
 Inv-loop bytes t₀ n a l₀ t l = (l ≤ a) × Filled bytes t l 0

@@ -5,11 +5,11 @@ use native.Mathlib.Omega.{arith}
 use lib.Seq.{sets, length-sets}
 use Rattle.automata.specs.Fields.{rowsOf}
 use Rattle.rows.specs.Table.{at}
 use Rattle.record.specs.Record.{rowBytes, rowsAt}
 use Rattle.record.specs.Bytes.{allBytes}
 use Rattle.record.proofs.Stores.{letter-stored}
-use Rattle.record.proofs.put_rows.Statement.{statement}
-use Rattle.record.proofs.put_rows.Tie as tie
+use Rattle.codec.proofs.put_rows.Statement.{statement}
+use Rattle.codec.proofs.put_rows.Tie as tie
 
 abbrev Inv-loop : tie.InvT-loop
 Inv-loop t m buf₀ a l₀ buf l = (l ≤ a) × (buf ≡ sets buf₀ rowsAt (allBytes rowBytes (rowsOf l (m .states) (at t))))

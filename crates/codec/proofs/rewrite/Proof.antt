@@ -3,13 +3,13 @@ use mathlib.Core.Path.{refl, sym, _∙_}
 use native.Mathlib.Omega.{arith}
 use lib.ListN.{length}
 use denote.Ref.{now}
 use Rattle.record.specs.Record.{WellFormed}
 use Rattle.record.proofs.Refusals.{good-check}
 use Rattle.record.proofs.Held.{encode-held}
 use Rattle.record.proofs.Outcome.{rewrite-refused, rewrite-fit}
 use borrow.Author.Needs.{needs}
-use Rattle.record.proofs.rewrite.Statement.{statement}
-use Rattle.record.proofs.rewrite.Tie as tie
+use Rattle.codec.proofs.rewrite.Statement.{statement}
+use Rattle.codec.proofs.rewrite.Tie as tie
 
 -- Past the check the record is well formed.
 passed : (c : tie.After-enum-told) → WellFormed (now (c .before .before .before .before .before .args .bytes))

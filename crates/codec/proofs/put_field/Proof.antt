@@ -4,10 +4,10 @@ use denote.Ref.{now}
 use native.Mathlib.Omega.{arith}
 use lib.ListN.{length-set}
 use Rattle.rows.specs.Row.{mask}
 use Rattle.record.proofs.Stores.{sets-4}
 use borrow.Author.Needs.{needs}
-use Rattle.record.proofs.put_field.Statement.{statement}
-use Rattle.record.proofs.put_field.Tie as tie
+use Rattle.codec.proofs.put_field.Statement.{statement}
+use Rattle.codec.proofs.put_field.Tie as tie
 
 to-u64-requires : tie.Need-to-u64-requires
 to-u64-requires c κs = search needs
