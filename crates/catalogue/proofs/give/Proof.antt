@@ -1,4 +1,4 @@
--- `give`: a refusal, or what `record::write` does with the entry that was loaded.
+-- `give`: a refusal, or what `codec::write` does with the entry that was loaded.
 use mathlib.Core.Path.{_∙_}
 use native.Mathlib.Omega.{arith}
 use lib.ListN.{length}
