@@ -8,7 +8,7 @@ use Rattle.record.specs.Record.{checkOf, WellFormed}
 use Rattle.record.specs.declared.Checked.the-variants.{Refused as Bad}
 use Rattle.script.specs.Script.{partAt, afterPart, bytesAt}
 use Rattle.script.specs.declared.Part.the-variants.{Whole}
-use Rattle.marking.specs.Lines.{refusedLine, keyLine, tooLongLine}
+use Rattle.lines.specs.Lines.{refusedLine, keyLine, tooLongLine}
 use Rattle.marking.specs.Marking.{maxScript, dimensionIn, keyRecordLine, answerLine, keyOf, keyPartLine, answerPartLine, lineAt}
 
 module _ (key : List ℕ) where

@@ -17,12 +17,12 @@ use Rattle.compare.specs.declared.Side.the-variants.{First, Second}
 use Rattle.compare.proofs.CompareLaws.{clash, accepted}
 use Rattle.script.specs.Script.{partAt, afterPart}
 use Rattle.script.proofs.Parts.{whole-stands}
-use Rattle.marking.specs.Lines.{keyLine, sameLine, differLine}
+use Rattle.lines.specs.Lines.{keyLine, sameLine, differLine}
 use Rattle.marking.specs.Marking.{maxScript, dimensionIn, keyRecordLine, answerLine, keyOf, keyPartLine, answerPartLine, placeOf, markLine}
 use Rattle.marking.specs.Told.{RecordAt, HasDimension, KeyTold, Differ, AnswerTold, Told}
 use Rattle.marking.proofs.Cases.{key-good, line-key, line-answer}
 use Rattle.marking.proofs.Verdicts.{answer-same, answer-differs}
-use Rattle.marking.proofs.Readable.{dim-injective, differ-injective, not-both}
+use Rattle.lines.proofs.Readable.{dim-injective, differ-injective, not-both}
 
 -- The dimension of a record is the one that its lines show.
 shown : (bs : List ℕ) (d : ℕ) → HasDimension bs d → dimensionIn bs ≡ d

@@ -22,7 +22,7 @@ use Rattle.compare.specs.declared.Side.{Side}
 use Rattle.compare.specs.declared.Compared.{Compared}
 use Rattle.compare.specs.declared.Compared.the-variants.{Same, Differs, Refused}
 use Rattle.compare.proofs.CompareLaws.{outcome-refused, outcome-same, outcome-word}
-use Rattle.marking.specs.Lines.{refusedLine, sameLine, differLine}
+use Rattle.lines.specs.Lines.{refusedLine, sameLine, differLine}
 use Rattle.marking.specs.Marking.{dimensionIn, answerLine}
 
 -- ---- the cases of an answer's line

@@ -1,4 +1,3 @@
--- What a reader must believe: Lines, Marking, Told.
-pub mod Lines
+-- What a reader must believe: Marking, Told.
 pub mod Marking
 pub mod Told

@@ -24,7 +24,7 @@ use Rattle.compare.specs.Compare.{differenceOf, sideOf}
 use Rattle.script.specs.Script.{partAt, afterPart, bytesAt}
 use Rattle.script.specs.declared.Part.{Part}
 use Rattle.script.specs.declared.Part.the-variants.{Whole, Refused, End}
-use Rattle.marking.specs.Lines.{refusedLine, keyLine, sameLine, differLine, tooLongLine}
+use Rattle.lines.specs.Lines.{refusedLine, keyLine, sameLine, differLine, tooLongLine}
 
 abbrev pub maxScript : ℕ
 maxScript = 65536

@@ -16,7 +16,7 @@ use Rattle.compare.specs.Compare.{acceptorOf}
 use Rattle.compare.specs.declared.Side.{Side}
 use Rattle.script.specs.Script.{partAt, bytesAt}
 use Rattle.script.specs.declared.Part.the-variants.{Whole}
-use Rattle.marking.specs.Lines.{keyLine, sameLine, differLine}
+use Rattle.lines.specs.Lines.{keyLine, sameLine, differLine}
 use Rattle.marking.specs.Marking.{placeOf}
 
 -- Of a key and answers end to end, the record of index 0 is the key, and that of index i + 1 the answer i (proofs/EndToEnd).

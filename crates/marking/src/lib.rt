@@ -1,17 +1,14 @@
 // Marking a script: the line of each of its records, and the marking service.
 ghost use mathlib.Core.Path.{_≡_};
-ghost use Prim.Native.Nat.{ℕ, _+_, _≤_, _<_};
+ghost use Prim.Native.Nat.{ℕ, _≤_};
 ghost use lib.ListN.{length, take};
-ghost use lib.Seq.{sets};
-ghost use Rattle.automata.specs.Word.{Over};
 ghost use Rattle.record.specs.Record.{WellFormed};
 ghost use Rattle.record.specs.Outcome.{fit, answerOf, bufferOf};
 ghost use Rattle.script.specs.Script.{partAt, afterPart};
-ghost use Rattle.marking.specs.Lines.{opening, refusedLine, dimLine, differLine, acceptedBy, longest, Begun, Begins};
+ghost use Rattle.lines.specs.Lines.{longest, Begins};
 ghost use Rattle.marking.specs.Marking.{maxScript, dimensionIn, keyRecordLine, answerLine, keyPartLine, answerPartLine, lineAt, pastOf, placeOf, markLine, markOutcome};
 ghost use Rattle.marking.specs.Told.{Told};
 use compare::Compared;
-use compare::Side;
 use record::Checked;
 use record::Written;
 use script::Part;
@@ -20,75 +17,6 @@ const MAX_SCRIPT: usize = 65536;
 
 // The bytes of a line that is built: no line has more.
 const LONGEST: usize = 160;
-
-// The first n bytes of a line into a lent buffer, or refusal 12.
-fn give(line: &[u8], n: usize, out: &mut [u8]) -> Written
-    requires { ⌜ n ≤ length (now line) ⌝ }
-    ensures answer { λ r. ⌜ r ≡ answerOf (fit (length (now (out .entry))) (take n (now (line .entry)))) ⌝ }
-    ensures buffer { λ _. ⌜ now (out .exit) ≡ bufferOf (fit (length (now (out .entry))) (take n (now (line .entry)))) (now (out .entry)) ⌝ }
-{
-    if out.len() < n {
-        return Written::Refused {
-            number: 12,
-            record: 0,
-            place: n,
-        };
-    }
-    text::put(out, 0, &line[..n]);
-    Written::Done { length: n }
-}
-
-// How the line of a record starts: its index, words, and a number.
-fn begin(line: &mut [u8], index: usize, words: &[u8], n: usize) -> usize
-    requires { ⌜ 40 + length (now words) ≤ length (now line) ⌝ }
-    ensures { λ r. ⌜ Begun (now (line .entry)) (now (line .exit)) r (opening index (now (words .entry)) n) ⌝ }
-{
-    let a = text::put_number(line, 0, index);
-    let b = text::put(line, a, words);
-    text::put_number(line, b, n)
-}
-
-// A refusal's line.
-fn refused_line(line: &mut [u8], index: usize, number: usize, place: usize) -> usize
-    requires { ⌜ longest ≤ length (now line) ⌝ }
-    ensures { λ r. ⌜ Begins (now (line .exit)) r (refusedLine index number place) ⌝ }
-{
-    let a = begin(line, index, b" refused ", number);
-    let b = text::put(line, a, b" ");
-    let c = text::put_number(line, b, place);
-    text::put(line, c, b"\n")
-}
-
-// A line that says no more than a dimension.
-fn dim_line(line: &mut [u8], index: usize, words: &[u8], d: usize) -> usize
-    requires { ⌜ 41 + length (now words) ≤ length (now line) ⌝ }
-    ensures { λ r. ⌜ Begins (now (line .exit)) r (dimLine index (now (words .entry)) d) ⌝ }
-{
-    let a = begin(line, index, words, d);
-    text::put(line, a, b"\n")
-}
-
-// Which record accepts the word, and the end of the line.
-fn put_side(line: &mut [u8], at: usize, side: Side) -> usize
-    requires { ⌜ at + 20 ≤ length (now line) ⌝ }
-    ensures { λ r. ⌜ (r ≡ at + length (acceptedBy side)) × (now (line .exit) ≡ sets (now (line .entry)) at (acceptedBy side)) ⌝ }
-{
-    match side {
-        Side::First => text::put(line, at, b" accepted-by key\n"),
-        Side::Second => text::put(line, at, b" accepted-by answer\n"),
-    }
-}
-
-// The line of an answer whose words are not the key's.
-fn differ_line(line: &mut [u8], index: usize, d: usize, word: &[u8], side: Side) -> usize
-    requires { ⌜ Over 10 (now word) × (length (now word) < 64) × (longest ≤ length (now line)) ⌝ }
-    ensures { λ r. ⌜ Begins (now (line .exit)) r (differLine index d (now (word .entry)) side) ⌝ }
-{
-    let a = begin(line, index, b" differ dim ", d);
-    let b = text::put(line, a, b" word ");
-    let c = text::put_word(line, b, word);
-    put_side(line, c, side)
-}
 
 // The dimension of a well-formed record's language.
 fn dimension(bytes: &[u8]) -> usize
@@ -108,9 +36,9 @@ fn key_line(line: &mut [u8], key: &[u8]) -> usize
     match record::check(key) {
         Checked::Good => {
             let d = dimension(key);
-            dim_line(line, 0, b" key dim ", d)
+            lines::dim_line(line, 0, b" key dim ", d)
         }
-        Checked::Refused { number, place } => refused_line(line, 0, number, place),
+        Checked::Refused { number, place } => lines::refused_line(line, 0, number, place),
     }
 }
 
@@ -123,17 +51,17 @@ fn answer_line(line: &mut [u8], index: usize, key: &[u8], answer: &[u8]) -> usiz
     match compare::compare(key, answer, &mut word) {
         Compared::Same => {
             let d = dimension(answer);
-            dim_line(line, index, b" same dim ", d)
+            lines::dim_line(line, index, b" same dim ", d)
         }
         Compared::Differs { length, side } => {
             let own = dimension(answer);
-            differ_line(line, index, own, &word[..length], side)
+            lines::differ_line(line, index, own, &word[..length], side)
         }
         Compared::Refused {
             number,
             record: _,
             place,
-        } => refused_line(line, index, number, place),
+        } => lines::refused_line(line, index, number, place),
     }
 }
 
@@ -195,8 +123,8 @@ fn key_part_line(line: &mut [u8], script: &[u8], at: usize) -> usize
 {
     match script::part_from(script, at) {
         Part::Whole { start, next } => key_line(line, &script[start..next]),
-        Part::Refused { number, place } => refused_line(line, 0, number, place),
-        Part::End => refused_line(line, 0, 1, 0),
+        Part::Refused { number, place } => lines::refused_line(line, 0, number, place),
+        Part::End => lines::refused_line(line, 0, 1, 0),
     }
 }
 
@@ -210,7 +138,7 @@ fn answer_part_line(line: &mut [u8], script: &[u8], index: usize, at: usize) -> 
             let end = key_end(script);
             answer_line(line, index, &script[..end], &script[start..next])
         }
-        Part::Refused { number, place } => refused_line(line, index, number, place),
+        Part::Refused { number, place } => lines::refused_line(line, index, number, place),
         Part::End => 0,
     }
 }
@@ -240,7 +168,7 @@ pub fn line_at(script: &[u8], index: usize, at: usize, out: &mut [u8]) -> Writte
 {
     let mut line = [0u8; LONGEST];
     let n = part_line(&mut line, script, index, at);
-    give(&line, n, out)
+    lines::give(&line, n, out)
 }
 
 // The marking service: writes the line of the record of an index, or no bytes where marking ends before it; it refuses only with 12.

@@ -19,7 +19,7 @@ ghost use Rattle.compare.specs.Compare.{differenceOf, compareOutcome, acceptorO
 ghost use Rattle.compare.specs.declared.Side.{Side};
 ghost use Rattle.operations.specs.Operations.{sumOutcome, complementOutcome, mirrorOutcome, MinimalRecord, Operands, Limits};
 ghost use Rattle.intersection.specs.Meet.{maxProduct, meetOutcome, DimensionProduct, Small};
-ghost use Rattle.marking.specs.Lines.{longest};
+ghost use Rattle.lines.specs.Lines.{longest};
 ghost use Rattle.marking.specs.Marking.{maxScript, markLine, markOutcome};
 ghost use Rattle.marking.specs.Told.{Told};
 ghost use Rattle.catalogue.specs.Words.{wordsOf};

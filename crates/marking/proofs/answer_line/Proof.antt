@@ -10,8 +10,8 @@ use Rattle.record.proofs.Outcome.{outcome-take}
 use Rattle.operands.proofs.PairLaws.{both-passed}
 use Rattle.compare.specs.Compare.{compareOutcome}
 use Rattle.compare.specs.declared.Compared.the-variants.{Same}
-use Rattle.marking.specs.Lines.{sameLine}
-use Rattle.marking.proofs.Building.{begins-as}
+use Rattle.lines.specs.Lines.{sameLine}
+use Rattle.lines.proofs.Building.{begins-as}
 use Rattle.marking.proofs.Verdicts.{Found, Case, case, answer-refused, answer-same, found-line}
 use borrow.Author.Needs.{needs}
 use Rattle.marking.proofs.answer_line.Statement.{statement}

@@ -8,7 +8,7 @@ use Rattle.script.specs.declared.Part.the-variants.{Whole}
 use Rattle.script.proofs.Parts.{Stands, whole-stands}
 use Rattle.marking.specs.Marking.{answerPartLine}
 use Rattle.marking.proofs.Cases.{answer-whole}
-use Rattle.marking.proofs.Building.{begins-none, begins-as}
+use Rattle.lines.proofs.Building.{begins-none, begins-as}
 use borrow.Author.Needs.{needs}
 use Rattle.marking.proofs.answer_part_line.Statement.{statement}
 use Rattle.marking.proofs.answer_part_line.Tie as tie

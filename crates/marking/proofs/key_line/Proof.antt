@@ -2,9 +2,9 @@
 use mathlib.Core.Path.{sym, ap, _∙_}
 use denote.Ref.{now}
 use Rattle.record.specs.Record.{WellFormed}
-use Rattle.marking.specs.Lines.{keyLine}
+use Rattle.lines.specs.Lines.{keyLine}
 use Rattle.marking.proofs.Cases.{key-good, key-refused}
-use Rattle.marking.proofs.Building.{begins-as}
+use Rattle.lines.proofs.Building.{begins-as}
 use borrow.Author.Needs.{needs}
 use Rattle.marking.proofs.key_line.Statement.{statement}
 use Rattle.marking.proofs.key_line.Tie as tie

@@ -6,7 +6,7 @@ use Rattle.script.specs.Script.{partAt}
 use Rattle.script.specs.declared.Part.the-variants.{Whole}
 use Rattle.script.proofs.Parts.{Stands, whole-stands}
 use Rattle.marking.specs.Marking.{keyPartLine}
-use Rattle.marking.proofs.Building.{begins-as}
+use Rattle.lines.proofs.Building.{begins-as}
 use borrow.Author.Needs.{needs}
 use Rattle.marking.proofs.key_part_line.Statement.{statement}
 use Rattle.marking.proofs.key_part_line.Tie as tie

@@ -4,7 +4,7 @@ use native.Mathlib.Omega.{arith}
 use denote.Ref.{now}
 use lib.ListN.{length}
 use Rattle.record.specs.Outcome.{answerOf, bufferOf, fit}
-use Rattle.marking.proofs.Building.{begins-within}
+use Rattle.lines.proofs.Building.{begins-within}
 use borrow.Author.Needs.{needs}
 use Rattle.marking.proofs.line_at.Statement.{statement}
 use Rattle.marking.proofs.line_at.Tie as tie

@@ -5,7 +5,7 @@ use denote.Ref.{now}
 use lib.ListN.{length, take}
 use Rattle.record.specs.Outcome.{answerOf, bufferOf, fit}
 use Rattle.record.proofs.Outcome.{fit-bytes}
-use Rattle.marking.specs.Lines.{longest}
+use Rattle.lines.specs.Lines.{longest}
 use Rattle.marking.specs.Marking.{lineAt, markLine, markOutcome}
 use Rattle.marking.proofs.ToldLaws.{told}
 use borrow.Author.Needs.{needs}

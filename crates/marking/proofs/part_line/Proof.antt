@@ -2,9 +2,9 @@
 use mathlib.Core.Path.{sym}
 use native.Mathlib.Omega.{arith}
 use denote.Ref.{now}
-use Rattle.marking.specs.Lines.{tooLongLine}
+use Rattle.lines.specs.Lines.{tooLongLine}
 use Rattle.marking.proofs.Cases.{long-first, long-later, line-key, line-answer}
-use Rattle.marking.proofs.Building.{begun-first, begun-line, begins-none, begins-as}
+use Rattle.lines.proofs.Building.{begun-first, begun-line, begins-none, begins-as}
 use borrow.Author.Needs.{needs}
 use Rattle.marking.proofs.part_line.Statement.{statement}
 use Rattle.marking.proofs.part_line.Tie as tie

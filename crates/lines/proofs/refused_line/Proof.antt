@@ -2,11 +2,11 @@
 use native.Mathlib.Omega.{arith}
 use Rattle.text.specs.Text.{ascii, decimal}
 use Rattle.text.proofs.Decimal.{decimal-length}
-use Rattle.marking.specs.Lines.{refusedLine}
-use Rattle.marking.proofs.Building.{begun-more, begun-line, opening-length}
+use Rattle.lines.specs.Lines.{refusedLine}
+use Rattle.lines.proofs.Building.{begun-more, begun-line, opening-length}
 use borrow.Author.Needs.{needs}
-use Rattle.marking.proofs.refused_line.Statement.{statement}
-use Rattle.marking.proofs.refused_line.Tie as tie
+use Rattle.lines.proofs.refused_line.Statement.{statement}
+use Rattle.lines.proofs.refused_line.Tie as tie
 
 slice-aggregate-begin : tie.Need-slice-aggregate-begin
 slice-aggregate-begin c = search needs

@@ -3,11 +3,11 @@ use native.Mathlib.Omega.{arith}
 use denote.Ref.{now}
 use Rattle.text.specs.Text.{decimal}
 use Rattle.text.proofs.Decimal.{decimal-length}
-use Rattle.marking.specs.Lines.{opening}
-use Rattle.marking.proofs.Building.{begun-first, begun-more}
+use Rattle.lines.specs.Lines.{opening}
+use Rattle.lines.proofs.Building.{begun-first, begun-more}
 use borrow.Author.Needs.{needs}
-use Rattle.marking.proofs.begin.Statement.{statement}
-use Rattle.marking.proofs.begin.Tie as tie
+use Rattle.lines.proofs.begin.Statement.{statement}
+use Rattle.lines.proofs.begin.Tie as tie
 
 put-number-requires : tie.Need-put-number-requires
 put-number-requires c κs = let s = c .before .before .before in omega (arith, decimal-length (s .args .index) (s .fits .index .fits))

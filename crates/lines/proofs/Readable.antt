@@ -10,7 +10,7 @@ use Rattle.text.proofs.Decimal.{decimal-injective}
 use Rattle.compare.specs.declared.Side.{Side}
 use Rattle.compare.proofs.CompareLaws.{clash}
 use Rattle.compare.specs.declared.Side.the-variants.{First, Second}
-use Rattle.marking.specs.Lines.{opening, dimLine, sameLine, acceptedBy, differLine}
+use Rattle.lines.specs.Lines.{opening, dimLine, sameLine, acceptedBy, differLine}
 
 -- ---- no figure is a space
 

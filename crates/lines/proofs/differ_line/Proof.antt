@@ -2,11 +2,11 @@
 use native.Mathlib.Omega.{arith}
 use denote.Ref.{now}
 use Rattle.text.specs.Text.{ascii, wordText}
-use Rattle.marking.specs.Lines.{acceptedBy, differLine}
-use Rattle.marking.proofs.Building.{begun-more, begun-line, opening-length, word-short, side-length}
+use Rattle.lines.specs.Lines.{acceptedBy, differLine}
+use Rattle.lines.proofs.Building.{begun-more, begun-line, opening-length, word-short, side-length}
 use borrow.Author.Needs.{needs}
-use Rattle.marking.proofs.differ_line.Statement.{statement}
-use Rattle.marking.proofs.differ_line.Tie as tie
+use Rattle.lines.proofs.differ_line.Statement.{statement}
+use Rattle.lines.proofs.differ_line.Tie as tie
 
 slice-aggregate-begin : tie.Need-slice-aggregate-begin
 slice-aggregate-begin c = search needs

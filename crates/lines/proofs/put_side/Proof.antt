@@ -1,7 +1,7 @@
 -- `put_side`: case by case.
 use borrow.Author.Needs.{needs}
-use Rattle.marking.proofs.put_side.Statement.{statement}
-use Rattle.marking.proofs.put_side.Tie as tie
+use Rattle.lines.proofs.put_side.Statement.{statement}
+use Rattle.lines.proofs.put_side.Tie as tie
 
 enum-told : tie.Need-enum-told
 enum-told c = search needs

@@ -10,8 +10,8 @@ use Rattle.record.specs.declared.Written.the-variants.{Done}
 use Rattle.record.proofs.Outcome.{fit-short, fit-done}
 use Rattle.record.proofs.Stores.{sets-front}
 use borrow.Author.Needs.{needs}
-use Rattle.marking.proofs.give.Statement.{statement}
-use Rattle.marking.proofs.give.Tie as tie
+use Rattle.lines.proofs.give.Statement.{statement}
+use Rattle.lines.proofs.give.Tie as tie
 
 returns : tie.Need-returns
 returns c =

@@ -12,7 +12,7 @@ use Rattle.text.proofs.Decimal.{decimal-length}
 use Rattle.text.proofs.Words.{word-length}
 use Rattle.compare.specs.declared.Side.{Side}
 use Rattle.compare.specs.declared.Side.the-variants.{First, Second}
-use Rattle.marking.specs.Lines.{opening, acceptedBy, Begun, Begins}
+use Rattle.lines.specs.Lines.{opening, acceptedBy, Begun, Begins}
 
 -- The first run, and one more.
 pub begun-first : {before line : List ℕ} {r : ℕ} (run : List ℕ) → (r ≡ 0 + length run) × (line ≡ sets before 0 run) → Begun before line r run

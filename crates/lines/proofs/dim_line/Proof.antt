@@ -2,11 +2,11 @@
 use native.Mathlib.Omega.{arith}
 use denote.Ref.{now}
 use Rattle.text.specs.Text.{ascii}
-use Rattle.marking.specs.Lines.{dimLine}
-use Rattle.marking.proofs.Building.{begun-more, begun-line, opening-length}
+use Rattle.lines.specs.Lines.{dimLine}
+use Rattle.lines.proofs.Building.{begun-more, begun-line, opening-length}
 use borrow.Author.Needs.{needs}
-use Rattle.marking.proofs.dim_line.Statement.{statement}
-use Rattle.marking.proofs.dim_line.Tie as tie
+use Rattle.lines.proofs.dim_line.Statement.{statement}
+use Rattle.lines.proofs.dim_line.Tie as tie
 
 begin-requires : tie.Need-begin-requires
 begin-requires c κs = search needs
