@@ -2,7 +2,7 @@
 """Holds the documents against the tree: commands run and print what stands under them, links and files that are named exist.
 
 In a block headed ```console a line `$ COMMAND` is run in the repository's root by a shell, and what it prints on standard output must be the
-lines under it, where there are any. The gate's own command is not run, since it runs this. A link [..](PATH) and a path crate/specs/File in
+lines under it, where there are any. The gate's own command is not run, since it runs this, and a command that only builds is run once. A link [..](PATH) and a path crate/specs/File in
 backquotes must name a file or folder. Ends with status 1 if anything is not as said.
 """
 import pathlib
@@ -23,10 +23,12 @@ def blocks(text):
             yield command, printed
 
 
-def try_command(command, printed):
+def try_command(command, printed, built):
     """What is wrong with one command, or nothing."""
-    if command == GATE:
+    if command == GATE or command in built:
         return None
+    if not printed:
+        built.add(command)
     done = subprocess.run(command, shell=True, cwd=ROOT, stdin=subprocess.DEVNULL, capture_output=True, text=True, check=False)
     if done.returncode != 0:
         return f"ended with status {done.returncode}: {done.stderr.strip()[-300:]}"
@@ -47,6 +49,7 @@ def places(document, text):
 
 def main():
     wrong = commands = named = 0
+    built = set()
     for name in DOCUMENTS:
         document = ROOT / name
         text = document.read_text(encoding="utf-8")
@@ -57,7 +60,7 @@ def main():
                 wrong += 1
         for command, printed in blocks(text):
             commands += 1
-            problem = try_command(command, printed)
+            problem = try_command(command, printed, built)
             if problem:
                 print(f"{name}: {command}: {problem}")
                 wrong += 1
