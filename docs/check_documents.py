@@ -2,7 +2,8 @@
 """Holds the documents against the tree: commands run and print what stands under them, links and files that are named exist.
 
 In a block headed ```console a line `$ COMMAND` is run in the repository's root by a shell, and what it prints on standard output must be the
-lines under it, where there are any. The gate's own command is not run, since it runs this, and a command that only builds is run once. A link [..](PATH) and a path crate/specs/File in
+lines under it, where there are any. The gate's own command is not run, since it runs this, nor is the one that makes the archive, which the gate has
+just done; a command that only builds is run once. A link [..](PATH) and a path crate/specs/File in
 backquotes must name a file or folder. Ends with status 1 if anything is not as said.
 """
 import pathlib
@@ -12,7 +13,7 @@ import sys
 
 ROOT = pathlib.Path(__file__).resolve().parent.parent
 DOCUMENTS = ["README.md", "host/README.md", "tests/README.md", "bench/README.md"] + [f"docs/{name}.md" for name in ("CLAIMS", "DECISIONS", "DESIGN", "MARKING", "PROVING", "TRUST")]
-GATE = "bash .ci/run"
+GATE = {"bash .ci/run", "rt staticlib nxa"}  # the gate itself, and what it has just done
 
 
 def blocks(text):
@@ -25,7 +26,7 @@ def blocks(text):
 
 def try_command(command, printed, built):
     """What is wrong with one command, or nothing."""
-    if command == GATE or command in built:
+    if command in GATE or command in built:
         return None
     if not printed:
         built.add(command)
