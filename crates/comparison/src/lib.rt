@@ -5,12 +5,12 @@ ghost use mathlib.Core.List.{_++_};
 ghost use lib.ListN.{length, drop};
 ghost use Rattle.rows.specs.Row.{width, mask};
 ghost use Rattle.rows.specs.Table.{blocks, size, at};
-ghost use Rattle.rows.specs.Product.{Products};
 ghost use Rattle.rows.specs.Machine.{automatonIn, Valid};
+ghost use Rattle.kernels.specs.Products.{Products};
 ghost use Rattle.comparison.specs.Hunt.{Hunting, Hunted, Ended};
 ghost use Rattle.comparison.specs.Sum.{beside, Joined, Filled, wordIn, Traced, Judged};
+use kernels::Line;
 use reduction::Size;
-use rows::Line;
 use rows::Machine;
 use rows::Row;
 use rows::Table;
@@ -53,7 +53,7 @@ pub fn try_row(t: &Table, m: Machine, b: &mut Table, s: Size, k: usize) -> Hunt
     let a = m.letters;
     let x = rows::load(b, 2, k);
     let mut y = [0u64; 8];
-    rows::times_all(t, a, x, &mut y);
+    kernels::times_all(t, a, x, &mut y);
     let mut r = s;
     let mut l: usize = 0;
     while l < a {

@@ -40,7 +40,7 @@ pub fn place(t: &mut Table, n: usize, d: usize, p: Row, y: Row, f: usize, g: usi
     ensures { λ r. ⌜ Placed n d (mask p) (mask y) f g (now (t .entry)) (now (t .exit)) (mask (r .row)) (r .count) (mask (r .pivots)) ⌝ }
 {
     let s = rows::and(y, p);
-    let w = rows::times_two(t, 0, 1, s);
+    let w = kernels::times_two(t, 0, 1, s);
     let e = w.first;
     let c = w.second;
     let left = rows::xor(y, e);

@@ -5,12 +5,13 @@ ghost use Prim.Native.Nat.{ℕ, _+_, _^_, _≤_, _<_};
 ghost use lib.ListN.{length};
 ghost use Rattle.rows.specs.Row.{width, mask};
 ghost use Rattle.rows.specs.Table.{size, at};
-ghost use Rattle.rows.specs.Product.{product, Products};
+ghost use Rattle.rows.specs.Product.{product};
 ghost use Rattle.rows.specs.Machine.{automatonIn, Valid};
+ghost use Rattle.kernels.specs.Products.{Products};
 ghost use Rattle.elimination.specs.Place.{BasisIn, Placed};
 ghost use Rattle.reduction.specs.Tables.{Searching, Column, Reduces, Minimises};
 use elimination::Spot;
-use rows::Line;
+use kernels::Line;
 use rows::Machine;
 use rows::Row;
 use rows::Table;
@@ -29,7 +30,7 @@ pub fn advance(t: &Table, m: Machine, b: &mut Table, y: &Line, s: Size, k: usize
     let n = m.states;
     let d = s.count;
     let p = s.pivots;
-    let x = rows::pick(y, l);
+    let x = kernels::pick(y, l);
     elimination::place(b, n, d, p, x, k, l)
 }
 
@@ -65,7 +66,7 @@ pub fn expand(t: &Table, m: Machine, b: &mut Table, out: &mut Table, s: Size, k:
     let a = m.letters;
     let x = rows::load(b, 2, k);
     let mut y = [0u64; 8];
-    rows::times_all(t, a, x, &mut y);
+    kernels::times_all(t, a, x, &mut y);
     let mut r = s;
     let mut l: usize = 0;
     while l < a {

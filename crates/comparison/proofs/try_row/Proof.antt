@@ -5,7 +5,7 @@ use native.Mathlib.Omega.{arith}
 use borrow.Author.Needs.{needs}
 use Rattle.rows.specs.Row.{width, mask}
 use Rattle.rows.specs.Table.{at}
-use Rattle.rows.specs.Product.{Products}
+use Rattle.kernels.specs.Products.{Products}
 use Rattle.reduction.proofs.TableSearch.{count-bound, found-low}
 use Rattle.comparison.specs.Hunt.{Hunting}
 use Rattle.comparison.proofs.HuntLaws.{hunting-next}

@@ -4,7 +4,7 @@ use Prim.Native.Nat.{_-_, _^_, _≤_, _<_}
 use native.Mathlib.Omega.{arith}
 use Rattle.rows.specs.Row.{width, mask}
 use Rattle.rows.specs.Table.{at}
-use Rattle.rows.specs.Product.{Products}
+use Rattle.kernels.specs.Products.{Products}
 use Rattle.reduction.specs.Tables.{Searching}
 use Rattle.reduction.proofs.TableSearch.{count-bound, found-low, searching-next}
 use Rattle.reduction.proofs.expand.Statement.{statement}

@@ -3,12 +3,12 @@ use Prim.Native.Nat.{ℕ}
 use native.Mathlib.Omega.{arith}
 use borrow.Author.Needs.{needs}
 use lib.ListN.{set}
 use Rattle.rows.specs.Row.{mask}
 use Rattle.rows.specs.Table.{at}
 use Rattle.rows.specs.Product.{product}
-use Rattle.rows.proofs.ProductLaws.{line-two, line-four, line-eight}
-use Rattle.rows.proofs.times_all.Statement.{statement}
-use Rattle.rows.proofs.times_all.Tie as tie
+use Rattle.kernels.proofs.LineLaws.{line-two, line-four, line-eight}
+use Rattle.kernels.proofs.times_all.Statement.{statement}
+use Rattle.kernels.proofs.times_all.Tie as tie
 
 times-two-requires : tie.Need-times-two-requires
 times-two-requires c κs = search needs

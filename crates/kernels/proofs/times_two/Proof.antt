@@ -5,12 +5,12 @@ use native.Mathlib.Omega.{arith}
 use borrow.Author.Needs.{needs}
 use lib.Count.{trailing-le}
 use lib.Bits.{and-le-r}
 use Rattle.rows.specs.Row.{mask}
 use Rattle.rows.specs.Table.{at}
 use Rattle.rows.proofs.LowestBit.{lowest-set}
 use Rattle.rows.proofs.ProductLaws.{Left, left-start, left-step, left-end}
-use Rattle.rows.proofs.times_two.Statement.{statement}
-use Rattle.rows.proofs.times_two.Tie as tie
+use Rattle.kernels.proofs.times_two.Statement.{statement}
+use Rattle.kernels.proofs.times_two.Tie as tie
 
 abbrev Inv-loop : tie.InvT-loop
 Inv-loop t l g b c s₀ y₀ w₀ s y w = (s < 2 ^ 64) × (s ≤ s₀) × Left (at t l) s₀ s y × Left (at t g) s₀ s w

@@ -6,12 +6,12 @@ use borrow.Author.Needs.{needs}
 use lib.Count.{trailing-le, trailingZeros}
 use lib.Bits.{bitAnd, bitXor, and-le-r}
 use lib.ListN.{getD}
 use Rattle.rows.specs.Row.{mask}
 use Rattle.rows.specs.Table.{at}
 use Rattle.rows.proofs.LowestBit.{lowest-set}
 use Rattle.rows.proofs.ProductLaws.{Left, left-start, left-step, left-end}
-use Rattle.rows.proofs.times_four.Statement.{statement}
-use Rattle.rows.proofs.times_four.Tie as tie
+use Rattle.kernels.proofs.times_four.Statement.{statement}
+use Rattle.kernels.proofs.times_four.Tie as tie
 
 abbrev Inv-loop : tie.InvT-loop
 Inv-loop t l b h₀ y0₀ y1₀ y2₀ y3₀ h y0 y1 y2 y3 = (h < 2 ^ 64) × (h ≤ h₀) × Left (at t l) h₀ h y0 × Left (at t (l + 1)) h₀ h y1 × Left (at t (l + 2)) h₀ h y2 × Left (at t (l + 3)) h₀ h y3

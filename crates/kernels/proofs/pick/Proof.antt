@@ -1,9 +1,9 @@
 -- `pick` reads the number that stands for the row.
 use mathlib.Core.Path.{refl}
 use Rattle.rows.specs.Row.{mask}
 use borrow.Author.Needs.{needs}
-use Rattle.rows.proofs.pick.Statement.{statement}
-use Rattle.rows.proofs.pick.Tie as tie
+use Rattle.kernels.proofs.pick.Statement.{statement}
+use Rattle.kernels.proofs.pick.Tie as tie
 
 mul-t3 : tie.Need-mul-t3
 mul-t3 c = search needs

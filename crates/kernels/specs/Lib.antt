@@ -1,0 +1,2 @@
+-- The definition that the contracts of the kernels cite.
+pub mod Products
