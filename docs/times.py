@@ -2,6 +2,7 @@
 """Makes docs/TIMES.md from what the gate printed: python3 docs/times.py < LOG > docs/TIMES.md
 
 A line for each crate: the seconds of its proofs, the number of its must-fail edits and their seconds together; then the gate's parts.
+Parts run beside each other, so the gate prints the seconds of all of it in a last line of this kind.
 """
 import re
 import sys
@@ -24,7 +25,7 @@ def main():
         elif re.match(r"^\d+ passed, ", line):
             verdict = line.strip()
     print("# How long the gate takes\n")
-    print(f"Made by `python3 docs/times.py` from the output of `bash .ci/run`: {verdict}. Seconds on two cores; two checks run side by side.\n")
+    print(f"Made by `python3 docs/times.py` from the output of `bash .ci/run`: {verdict}. Seconds on two cores; two checks run side by side, and so do parts of the tests.\n")
     print("| crate | proofs | edits | all edits |\n|---|---|---|---|")
     for name, seconds in proofs.items():
         count, spent = edits.get(name, (0, 0))
@@ -34,7 +35,6 @@ def main():
     print("\n| part of the gate | seconds |\n|---|---|")
     for name, seconds in parts:
         print(f"| {name} | {seconds} |")
-    print(f"| together | {sum(seconds for _, seconds in parts)} |")
 
 
 if __name__ == "__main__":
