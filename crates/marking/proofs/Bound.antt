@@ -14,7 +14,8 @@ use Rattle.script.specs.Script.{partAt, bytesAt}
 use Rattle.script.specs.declared.Part.{Part}
 use Rattle.script.specs.declared.Part.the-variants.{Whole, Refused, End}
 use Rattle.script.proofs.Parts.{end-met, whole-stands}
-use Rattle.marking.specs.Marking.{maxScript, answerPartLine, onGood, pastPart, pastOf, placeOf, markLine}
+use Rattle.walk.specs.Walk.{onGood, pastPart, pastOf, placeOf}
+use Rattle.marking.specs.Marking.{maxScript, answerPartLine, markLine}
 use Rattle.marking.proofs.Cases.{long-later, line-answer}
 
 -- Where marking goes on short of the script's end, it has passed a record.

@@ -13,9 +13,10 @@ use Rattle.record.proofs.Refusals.{good-front, front-good, good-check}
 use Rattle.script.specs.Script.{partAt, bytesAt}
 use Rattle.script.specs.declared.Part.the-variants.{Whole}
 use Rattle.script.proofs.Parts.{whole-met}
-use Rattle.marking.specs.Marking.{maxScript, pastOf, placeOf, markLine}
+use Rattle.walk.specs.Walk.{pastOf, placeOf}
+use Rattle.walk.proofs.Places.{past-answer, past-key}
+use Rattle.marking.specs.Marking.{maxScript, markLine}
 use Rattle.marking.specs.Told.{RecordAt, AnswerTold}
-use Rattle.marking.proofs.Places.{past-answer, past-key}
 use Rattle.marking.proofs.ToldLaws.{told}
 
 abbrev pub joined : List (List ℕ) → List ℕ

@@ -1,5 +1,4 @@
 -- Laws that belong to no one function.
-pub mod Places
 pub mod Cases
 pub mod Verdicts
 pub mod ToldLaws

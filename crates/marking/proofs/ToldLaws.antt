@@ -18,7 +18,8 @@ use Rattle.compare.proofs.CompareLaws.{clash, accepted}
 use Rattle.script.specs.Script.{partAt, afterPart}
 use Rattle.script.proofs.Parts.{whole-stands}
 use Rattle.lines.specs.Lines.{keyLine, sameLine, differLine}
-use Rattle.marking.specs.Marking.{maxScript, dimensionIn, keyRecordLine, answerLine, keyOf, keyPartLine, answerPartLine, placeOf, markLine}
+use Rattle.walk.specs.Walk.{placeOf}
+use Rattle.marking.specs.Marking.{maxScript, dimensionIn, keyRecordLine, answerLine, keyOf, keyPartLine, answerPartLine, markLine}
 use Rattle.marking.specs.Told.{RecordAt, HasDimension, KeyTold, Differ, AnswerTold, Told}
 use Rattle.marking.proofs.Cases.{key-good, line-key, line-answer}
 use Rattle.marking.proofs.Verdicts.{answer-same, answer-differs}

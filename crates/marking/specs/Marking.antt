@@ -1,15 +1,13 @@
--- Marking a script (01: Marking a script): where the record of each index stands, its line, and the marking service.
+-- Marking a script (01: Marking a script): the line of the record of each index, and the marking service.
 --   dimensionIn bs            the dimension of a record's language
 --   keyOf s                   the bytes of a script's first record
 --   lineAt s index at         the line of what stands at a position, as that of an index
---   pastOf s index at         where marking goes on after it: past a record, or the script's end where marking stops
---   placeOf s index           where the record of an index stands; the script's end where marking ends before it
 --   markLine s index          the line of an index, no bytes where there is none
 --   markOutcome s index room  what the service does with a buffer of so many bytes
 use mathlib.Core.Bool.{cond}
 use mathlib.Core.List.{List, []}
 use mathlib.Core.Option.{Option, none, some}
-use Prim.Native.Nat.{ℕ, zero, suc}
+use Prim.Native.Nat.{ℕ}
 use lib.Dec.{ltb, eqb}
 use lib.ListN.{length, take}
 use Rattle.automata.specs.MinimalOf.{dimensionOf}
@@ -24,6 +22,7 @@ use Rattle.compare.specs.Compare.{differenceOf, sideOf}
 use Rattle.script.specs.Script.{partAt, afterPart, bytesAt}
 use Rattle.script.specs.declared.Part.{Part}
 use Rattle.script.specs.declared.Part.the-variants.{Whole, Refused, End}
+use Rattle.walk.specs.Walk.{placeOf}
 use Rattle.lines.specs.Lines.{refusedLine, keyLine, sameLine, differLine, tooLongLine}
 
 abbrev pub maxScript : ℕ
@@ -79,26 +78,6 @@ lineAt s index at =
     cond (ltb maxScript (length s))
     (cond (eqb index 0) tooLongLine [])
     (cond (eqb index 0) (keyPartLine s (partAt s at)) (answerPartLine s index (partAt s at)))
-
--- ---- where the records stand
-
--- After any refusal of the key marking stops; after 7 or 8 of an answer it goes on.
-abbrev pub onGood : Checked → ℕ → ℕ → ℕ
-onGood Good next end = next
-onGood (Bad number place) next end = end
-
--- After a refusal 1 to 6 marking stops.
-abbrev pub pastPart : List ℕ → ℕ → Part → ℕ
-pastPart s index (Whole start next) = cond (eqb index 0) (onGood (checkOf (bytesAt s start next)) next (length s)) next
-pastPart s index (Refused number place) = length s
-pastPart s index End = length s
-
-unfoldable pub pastOf : List ℕ → ℕ → ℕ → ℕ
-pastOf s index at = pastPart s index (partAt s at)
-
-unfoldable pub placeOf : List ℕ → ℕ → ℕ
-placeOf s zero = 0
-placeOf s (suc k) = pastOf s k (placeOf s k)
 
 -- ---- the service
 

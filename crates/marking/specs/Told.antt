@@ -17,7 +17,7 @@ use Rattle.compare.specs.declared.Side.{Side}
 use Rattle.script.specs.Script.{partAt, bytesAt}
 use Rattle.script.specs.declared.Part.the-variants.{Whole}
 use Rattle.lines.specs.Lines.{keyLine, sameLine, differLine}
-use Rattle.marking.specs.Marking.{placeOf}
+use Rattle.walk.specs.Walk.{placeOf}
 
 -- Of a key and answers end to end, the record of index 0 is the key, and that of index i + 1 the answer i (proofs/EndToEnd).
 pub record RecordAt (s : List ℕ) (index : ℕ) (bs : List ℕ) : Type 0 where

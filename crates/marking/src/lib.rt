@@ -4,9 +4,9 @@ ghost use Prim.Native.Nat.{ℕ, _≤_};
 ghost use lib.ListN.{length, take};
 ghost use Rattle.record.specs.Record.{WellFormed};
 ghost use Rattle.record.specs.Outcome.{fit, answerOf, bufferOf};
-ghost use Rattle.script.specs.Script.{partAt, afterPart};
+ghost use Rattle.script.specs.Script.{partAt};
 ghost use Rattle.lines.specs.Lines.{longest, Begins};
-ghost use Rattle.marking.specs.Marking.{maxScript, dimensionIn, keyRecordLine, answerLine, keyPartLine, answerPartLine, lineAt, pastOf, placeOf, markLine, markOutcome};
+ghost use Rattle.marking.specs.Marking.{maxScript, dimensionIn, keyRecordLine, answerLine, keyPartLine, answerPartLine, lineAt, markLine, markOutcome};
 ghost use Rattle.marking.specs.Told.{Told};
 use compare::Compared;
 use record::Checked;
@@ -65,57 +65,6 @@ fn answer_line(line: &mut [u8], index: usize, key: &[u8], answer: &[u8]) -> usiz
     }
 }
 
-// Where a script's first record ends; 0 where none stands whole.
-fn key_end(script: &[u8]) -> usize
-    ensures { λ r. ⌜ (r ≡ afterPart (partAt (now (script .entry)) 0) 0) × (r ≤ length (now (script .entry))) ⌝ }
-{
-    match script::part_from(script, 0) {
-        Part::Whole { start: _, next } => next,
-        Part::Refused {
-            number: _,
-            place: _,
-        } => 0,
-        Part::End => 0,
-    }
-}
-
-// Where marking goes on after what stands at a position, as the record of an index: past a record, but the script's end after a
-// refusal 1 to 6 or any refusal of the key.
-pub fn past(script: &[u8], index: usize, at: usize) -> usize
-    ensures { λ r. ⌜ r ≡ pastOf (now (script .entry)) index at ⌝ }
-{
-    let end = script.len();
-    let Part::Whole { start, next } = script::part_from(script, at) else {
-        return end;
-    };
-    if index != 0 {
-        return next;
-    }
-    match record::check(&script[start..next]) {
-        Checked::Good => next,
-        Checked::Refused {
-            number: _,
-            place: _,
-        } => end,
-    }
-}
-
-// Where the record of an index stands; the script's end where marking ends before it.
-fn place(script: &[u8], index: usize) -> usize
-    ensures { λ r. ⌜ r ≡ placeOf (now (script .entry)) index ⌝ }
-{
-    let mut at = 0;
-    let mut i = 0;
-    while i < index {
-        if script.len() <= at {
-            return script.len();
-        }
-        at = past(script, i, at);
-        i += 1;
-    }
-    at
-}
-
 // The line of what stands at a position, as the key.
 fn key_part_line(line: &mut [u8], script: &[u8], at: usize) -> usize
     requires { ⌜ longest ≤ length (now line) ⌝ }
@@ -135,7 +84,7 @@ fn answer_part_line(line: &mut [u8], script: &[u8], index: usize, at: usize) -> 
 {
     match script::part_from(script, at) {
         Part::Whole { start, next } => {
-            let end = key_end(script);
+            let end = walk::key_end(script);
             answer_line(line, index, &script[..end], &script[start..next])
         }
         Part::Refused { number, place } => lines::refused_line(line, index, number, place),
@@ -160,7 +109,7 @@ fn part_line(line: &mut [u8], script: &[u8], index: usize, at: usize) -> usize
     answer_part_line(line, script, index, at)
 }
 
-// Writes the line of what stands at a position, as the record of an index: what a walk through a script calls, with `past`.
+// Writes the line of what stands at a position, as the record of an index: what a walk through a script calls, with `walk::past`.
 pub fn line_at(script: &[u8], index: usize, at: usize, out: &mut [u8]) -> Written
     ensures answer { λ r. ⌜ r ≡ answerOf (fit (length (now (out .entry))) (lineAt (now (script .entry)) index at)) ⌝ }
     ensures buffer { λ _. ⌜ now (out .exit) ≡ bufferOf (fit (length (now (out .entry))) (lineAt (now (script .entry)) index at)) (now (out .entry)) ⌝ }
@@ -182,6 +131,6 @@ pub fn mark(script: &[u8], index: usize, out: &mut [u8]) -> Written
     ensures room { λ _. ⌜ length (markLine (now (script .entry)) index) ≤ longest ⌝ }
     ensures told { λ r. ⌜ (length (now (script .entry)) ≤ maxScript → (n : ℕ) → r ≡ Written.Done n → Told (now (script .entry)) index (take n (now (out .exit)))) ⌝ }
 {
-    let at = place(script, index);
+    let at = walk::place(script, index);
     line_at(script, index, at, out)
 }

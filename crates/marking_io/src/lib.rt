@@ -4,7 +4,8 @@ ghost use mathlib.Core.Path.{_≡_};
 ghost use mathlib.Core.Bool.{true};
 ghost use Prim.Native.Nat.{_<_};
 ghost use lib.ListN.{length};
-ghost use Rattle.marking.specs.Marking.{placeOf, markLine};
+ghost use Rattle.walk.specs.Walk.{placeOf};
+ghost use Rattle.marking.specs.Marking.{markLine};
 use libc::STDIN_FILENO;
 use libc::STDOUT_FILENO;
 use record::Written;
@@ -32,7 +33,7 @@ fn print_lines(script: &[u8]) {
     let mut at = 0;
     let mut index = 0;
     while print_line(script, index, at) {
-        at = marking::past(script, index, at);
+        at = walk::past(script, index, at);
         index += 1;
     }
 }

@@ -4,7 +4,7 @@ use Prim.Native.Nat.{_-_, _<_}
 use native.Mathlib.Omega.{arith}
 use native.Mathlib.Numerals.{add-one}
 use denote.Ref.{now}
-use Rattle.marking.specs.Marking.{pastOf, placeOf}
+use Rattle.walk.specs.Walk.{pastOf, placeOf}
 use Rattle.marking.proofs.Bound.{line-index}
 use Rattle.marking_io.proofs.print_lines.Statement.{statement}
 use Rattle.marking_io.proofs.print_lines.Tie as tie

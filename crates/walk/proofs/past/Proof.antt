@@ -5,10 +5,10 @@ use denote.Ref.{now}
 use Rattle.script.specs.Script.{partAt}
 use Rattle.script.specs.declared.Part.the-variants.{Whole}
 use Rattle.script.proofs.Parts.{Stands, whole-stands}
-use Rattle.marking.proofs.Places.{past-stops, past-answer, past-key, past-bad-key}
+use Rattle.walk.proofs.Places.{past-stops, past-answer, past-key, past-bad-key}
 use borrow.Author.Needs.{needs}
-use Rattle.marking.proofs.past.Statement.{statement}
-use Rattle.marking.proofs.past.Tie as tie
+use Rattle.walk.proofs.past.Statement.{statement}
+use Rattle.walk.proofs.past.Tie as tie
 
 -- The record that stands at the position.
 whole : (c : tie.After-start) → Whole (c .start .given .0 .0) (c .start .given .0 .1 .0) ≡ partAt (now (c .before .before .before .before .args .script)) (c .before .before .before .before .args .at)

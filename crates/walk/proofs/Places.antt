@@ -16,7 +16,7 @@ use Rattle.script.specs.declared.Part.{Part}
 use Rattle.script.specs.declared.Part.the-variants.{Whole, Refused, End}
 use Rattle.script.proofs.Part as D
 use Rattle.script.proofs.Parts.{end-met}
-use Rattle.marking.specs.Marking.{pastPart, pastOf, placeOf}
+use Rattle.walk.specs.Walk.{pastPart, pastOf, placeOf}
 
 module _ (s : List ℕ) (index at : ℕ) where
   -- What is no whole record ends the marking.

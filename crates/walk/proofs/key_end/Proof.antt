@@ -4,8 +4,8 @@ use native.Mathlib.Omega.{arith}
 use Rattle.script.specs.Script.{afterPart}
 use Rattle.script.proofs.Parts.{whole-stands}
 use borrow.Author.Needs.{needs}
-use Rattle.marking.proofs.key_end.Statement.{statement}
-use Rattle.marking.proofs.key_end.Tie as tie
+use Rattle.walk.proofs.key_end.Statement.{statement}
+use Rattle.walk.proofs.key_end.Tie as tie
 
 part-from-requires : tie.Need-part-from-requires
 part-from-requires c κs = search needs

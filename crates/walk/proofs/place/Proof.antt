@@ -6,10 +6,10 @@ use native.Mathlib.Numerals.{add-one}
 use denote.Ref.{now}
 use lib.ListN.{length}
 use borrow.Author.Needs.{needs}
-use Rattle.marking.specs.Marking.{placeOf, pastOf}
-use Rattle.marking.proofs.Places.{place-ended}
-use Rattle.marking.proofs.place.Statement.{statement}
-use Rattle.marking.proofs.place.Tie as tie
+use Rattle.walk.specs.Walk.{placeOf, pastOf}
+use Rattle.walk.proofs.Places.{place-ended}
+use Rattle.walk.proofs.place.Statement.{statement}
+use Rattle.walk.proofs.place.Tie as tie
 
 abbrev Inv-loop : tie.InvT-loop
 Inv-loop script index at₀ i₀ at i = (i ≤ index) × (at ≡ placeOf script i)
