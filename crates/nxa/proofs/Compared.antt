@@ -12,8 +12,8 @@ use Rattle.compare.specs.declared.Side.{Side}
 use Rattle.compare.specs.declared.Side.the-variants.{First, Second}
 use Rattle.compare.specs.declared.Compared.{Compared}
 use Rattle.compare.specs.declared.Compared.the-variants.{Same, Differs, Refused}
-use Rattle.nxa.specs.declared.Reply.{Reply}
-use Rattle.nxa.specs.Reply.{refusal, sideNumber, ofCompared}
+use Rattle.replies.specs.declared.Reply.{Reply}
+use Rattle.replies.specs.Reply.{refusal, sideNumber, ofCompared}
 use Rattle.nxa.proofs.Granted.{Reasoned, fit-reasoned, pair-reasoned}
 
 -- ---- no refusal of a comparison has number 0

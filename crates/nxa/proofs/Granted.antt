@@ -19,10 +19,10 @@ use Rattle.operands.specs.declared.Pair.the-variants.{Both, Refused as NotBoth}
 use Rattle.minimal.specs.Minimal.{minimalBytes, minimalOutcome, minimisedAs}
 use Rattle.minimal.specs.declared.Minimised.{Minimised}
 use Rattle.minimal.specs.declared.Minimised.the-variants.{Done}
-use Rattle.nxa.specs.declared.Reply.{Reply}
+use Rattle.replies.specs.declared.Reply.{Reply}
 use Rattle.catalogue.specs.Entries.{last, recordOf, catalogueOf}
 use Rattle.marking.specs.Marking.{markLine, markOutcome}
-use Rattle.nxa.specs.Reply.{ofChecked, ofWritten, ofMinimised}
+use Rattle.replies.specs.Reply.{ofChecked, ofWritten, ofMinimised}
 
 -- ---- the record check
 

@@ -18,8 +18,8 @@ use Rattle.record.specs.declared.Written.the-variants.{Done, Refused}
 use Rattle.operations.specs.Operations.{resultOf, sumOutcome, unaryOf, unaryOutcome, MinimalRecord, Limits}
 use Rattle.operations.specs.declared.Unary.{Unary}
 use Rattle.intersection.specs.Meet.{maxProduct, meetOutcome}
-use Rattle.nxa.specs.declared.Reply.{Reply}
-use Rattle.nxa.specs.Reply.{refusal, ofWritten}
+use Rattle.replies.specs.declared.Reply.{Reply}
+use Rattle.replies.specs.Reply.{refusal, ofWritten}
 use Rattle.nxa.proofs.Granted.{check-numbered, Reasoned, fit-reasoned, checked-reasoned, pair-reasoned, written-granted}
 
 -- ---- no refusal of an operation has number 0

@@ -24,127 +24,8 @@ ghost use Rattle.marking.specs.Marking.{maxScript, markLine, markOutcome};
 ghost use Rattle.marking.specs.Told.{Told};
 ghost use Rattle.catalogue.specs.Words.{wordsOf};
 ghost use Rattle.catalogue.specs.Entries.{lettersAt, catalogueOf};
-ghost use Rattle.nxa.specs.Reply.{reply, refusal, ofChecked, ofWritten, ofTested, ofMinimised, sideNumber, ofCompared};
-use compare::Compared;
-use compare::Side;
-use minimal::Minimised;
-use record::Checked;
-use record::Written;
-use testing::Tested;
-
-// A reply: number 0 grants, any other is the refusal's. What a service has no use for is 0.
-#[repr(C)]
-pub struct Reply {
-    pub number: usize,
-    pub record: usize,
-    pub place: usize,
-    pub length: usize,
-    pub value: usize,
-}
-
-// A service that is granted: the bytes written, and what else it answers.
-fn grant(length: usize, value: usize) -> Reply
-    ensures { λ r. ⌜ r ≡ reply 0 0 0 length value ⌝ }
-{
-    Reply {
-        number: 0,
-        record: 0,
-        place: 0,
-        length: length,
-        value: value,
-    }
-}
-
-// A service that is refused.
-fn refuse(number: usize, record: usize, place: usize) -> Reply
-    ensures { λ r. ⌜ r ≡ refusal number «record» place ⌝ }
-{
-    Reply {
-        number: number,
-        record: record,
-        place: place,
-        length: 0,
-        value: 0,
-    }
-}
-
-// The reply of the record check, which has one record.
-fn of_checked(c: Checked) -> Reply
-    ensures { λ r. ⌜ r ≡ ofChecked c ⌝ }
-{
-    match c {
-        Checked::Good => grant(0, 0),
-        Checked::Refused { number, place } => refuse(number, 1, place),
-    }
-}
-
-// The reply of a service that writes.
-fn of_written(w: Written) -> Reply
-    ensures { λ r. ⌜ r ≡ ofWritten w ⌝ }
-{
-    match w {
-        Written::Done { length } => grant(length, 0),
-        Written::Refused {
-            number,
-            record,
-            place,
-        } => refuse(number, record, place),
-    }
-}
-
-// The reply of the test of a word.
-fn of_tested(t: Tested) -> Reply
-    ensures { λ r. ⌜ r ≡ ofTested t ⌝ }
-{
-    match t {
-        Tested::Accepted => grant(0, 1),
-        Tested::Rejected => grant(0, 0),
-        Tested::Refused {
-            number,
-            record,
-            place,
-        } => refuse(number, record, place),
-    }
-}
-
-// The reply of the minimal service.
-fn of_minimised(m: Minimised) -> Reply
-    ensures { λ r. ⌜ r ≡ ofMinimised m ⌝ }
-{
-    match m {
-        Minimised::Done { length, dimension } => grant(length, dimension),
-        Minimised::Refused {
-            number,
-            record,
-            place,
-        } => refuse(number, record, place),
-    }
-}
-
-// The number of the record that a side names.
-fn side_number(s: Side) -> usize
-    ensures { λ r. ⌜ r ≡ sideNumber s ⌝ }
-{
-    match s {
-        Side::First => 1,
-        Side::Second => 2,
-    }
-}
-
-// The reply of a comparison.
-fn of_compared(c: Compared) -> Reply
-    ensures { λ r. ⌜ r ≡ ofCompared c ⌝ }
-{
-    match c {
-        Compared::Same => grant(0, 0),
-        Compared::Differs { length, side } => grant(length, side_number(side)),
-        Compared::Refused {
-            number,
-            record,
-            place,
-        } => refuse(number, record, place),
-    }
-}
+ghost use Rattle.replies.specs.Reply.{refusal, ofChecked, ofWritten, ofTested, ofMinimised, sideNumber, ofCompared};
+use replies::Reply;
 
 // Checks a record. Number 0 comes exactly where it is well formed.
 #[no_mangle]
@@ -152,7 +33,7 @@ pub extern "C" fn nxa_check(record: &[u8]) -> Reply
     ensures reply { λ r. ⌜ r ≡ ofChecked (checkOf (now («record» .entry))) ⌝ }
     ensures granted { λ r. ⌜ (r .number ≡ 0 → WellFormed (now («record» .entry))) × (WellFormed (now («record» .entry)) → r .number ≡ 0) ⌝ }
 {
-    of_checked(record::check(record))
+    replies::of_checked(record::check(record))
 }
 
 // Reads a record into its fields and writes it afresh.
@@ -161,7 +42,7 @@ pub extern "C" fn nxa_rewrite(record: &[u8], out: &mut [u8]) -> Reply
     ensures reply { λ r. ⌜ r ≡ ofWritten (answerOf (rewriteOf (now («record» .entry)) (length (now (out .entry))))) ⌝ }
     ensures buffer { λ _. ⌜ now (out .exit) ≡ bufferOf (rewriteOf (now («record» .entry)) (length (now (out .entry)))) (now (out .entry)) ⌝ }
 {
-    of_written(codec::rewrite(record, out))
+    replies::of_written(codec::rewrite(record, out))
 }
 
 // Tests a word. Value 1: the record accepts it.
@@ -169,7 +50,7 @@ pub extern "C" fn nxa_rewrite(record: &[u8], out: &mut [u8]) -> Reply
 pub extern "C" fn nxa_test(record: &[u8], word: &[u8]) -> Reply
     ensures { λ r. ⌜ r ≡ ofTested (testOf (now («record» .entry)) (now (word .entry))) ⌝ }
 {
-    of_tested(testing::test(record, word))
+    replies::of_tested(testing::test(record, word))
 }
 
 // Writes the minimal record of a record. Where number is 0, of the first `length` bytes of the buffer:
@@ -190,7 +71,7 @@ pub extern "C" fn nxa_minimal(record: &[u8], out: &mut [u8]) -> Reply
     ensures least { λ r. ⌜ (r .number ≡ 0 → (A : Automaton) → Same (lettersOf (now («record» .entry))) (languageOf (now («record» .entry))) (accepts A) → r .value ≤ A .states) ⌝ }
     ensures unique { λ r. ⌜ (r .number ≡ 0 → (cs : List ℕ) → WellFormed cs → lettersOf cs ≡ lettersOf (now («record» .entry)) → (take (r .length) (now (out .exit)) ≡ minimalBytes cs → Same (lettersOf (now («record» .entry))) (languageOf (now («record» .entry))) (languageOf cs)) × (Same (lettersOf (now («record» .entry))) (languageOf (now («record» .entry))) (languageOf cs) → take (r .length) (now (out .exit)) ≡ minimalBytes cs)) ⌝ }
 {
-    of_minimised(minimal::minimal(record, out))
+    replies::of_minimised(minimal::minimal(record, out))
 }
 
 // Compares two records and writes the first word that just one accepts. For two well-formed records over the same letters:
@@ -206,7 +87,7 @@ pub extern "C" fn nxa_compare(first: &[u8], second: &[u8], word: &mut [u8]) -> R
     ensures first { λ r. ⌜ ((s : Side) → r .number ≡ 0 → r .value ≡ sideNumber s → FirstDifference (lettersOf (now (first .entry))) (languageOf (now (first .entry))) (languageOf (now (second .entry))) (take (r .length) (now (word .exit))) × (languageOf (acceptorOf s (now (first .entry)) (now (second .entry))) (take (r .length) (now (word .exit))) ≡ true) × ((d e : ℕ) → IsDimension (lettersOf (now (first .entry))) (languageOf (now (first .entry))) d → IsDimension (lettersOf (now (first .entry))) (languageOf (now (second .entry))) e → r .length < d + e)) ⌝ }
     ensures withheld { λ r. ⌜ (WellFormed (now (first .entry)) → WellFormed (now (second .entry)) → lettersOf (now (first .entry)) ≡ lettersOf (now (second .entry)) → (w : List ℕ) → FirstDifference (lettersOf (now (first .entry))) (languageOf (now (first .entry))) (languageOf (now (second .entry))) w → (length (now (word .entry)) < length w → r ≡ refusal 12 0 (length w)) × ((k : ℕ) → r ≡ refusal 12 0 k → (k ≡ length w) × (length (now (word .entry)) < length w))) ⌝ }
 {
-    of_compared(compare::compare(first, second, word))
+    replies::of_compared(compare::compare(first, second, word))
 }
 
 // Writes the minimal record of the words that just one of two records accepts. Of every operation below:
@@ -222,7 +103,7 @@ pub extern "C" fn nxa_sum(first: &[u8], second: &[u8], out: &mut [u8]) -> Reply
     ensures form { λ r. ⌜ (r .number ≡ 0 → MinimalRecord (lettersOf (now (first .entry))) (symmetricDifference (languageOf (now (first .entry))) (languageOf (now (second .entry)))) (take (r .length) (now (out .exit)))) ⌝ }
     ensures limits { λ r. ⌜ Limits (refusal 11 0) maxStates (Operands (now (first .entry)) (now (second .entry))) (IsDimension (lettersOf (now (first .entry))) (symmetricDifference (languageOf (now (first .entry))) (languageOf (now (second .entry))))) r ⌝ }
 {
-    of_written(operations::sum(first, second, out))
+    replies::of_written(operations::sum(first, second, out))
 }
 
 // Writes the minimal record of the words that both records accept. `words` and `form`: as for the sum.
@@ -237,7 +118,7 @@ pub extern "C" fn nxa_meet(first: &[u8], second: &[u8], out: &mut [u8]) -> Reply
     ensures form { λ r. ⌜ (r .number ≡ 0 → MinimalRecord (lettersOf (now (first .entry))) (intersection (languageOf (now (first .entry))) (languageOf (now (second .entry)))) (take (r .length) (now (out .exit)))) ⌝ }
     ensures limits { λ r. ⌜ Limits (refusal 11 0) maxStates (Operands (now (first .entry)) (now (second .entry)) × Small (lettersOf (now (first .entry))) (languageOf (now (first .entry))) (languageOf (now (second .entry)))) (IsDimension (lettersOf (now (first .entry))) (intersection (languageOf (now (first .entry))) (languageOf (now (second .entry))))) r ⌝ }
 {
-    of_written(intersection::meet(first, second, out))
+    replies::of_written(intersection::meet(first, second, out))
 }
 
 // Writes the minimal record of the words over the record's letters that it does not accept. `words`, `form`, `limits`: as for the sum.
@@ -249,7 +130,7 @@ pub extern "C" fn nxa_complement(record: &[u8], out: &mut [u8]) -> Reply
     ensures form { λ r. ⌜ (r .number ≡ 0 → MinimalRecord (lettersOf (now («record» .entry))) (complement (languageOf (now («record» .entry)))) (take (r .length) (now (out .exit)))) ⌝ }
     ensures limits { λ r. ⌜ Limits (refusal 11 0) maxStates (WellFormed (now («record» .entry))) (IsDimension (lettersOf (now («record» .entry))) (complement (languageOf (now («record» .entry))))) r ⌝ }
 {
-    of_written(operations::complement(record, out))
+    replies::of_written(operations::complement(record, out))
 }
 
 // Writes the minimal record of the reversed words. `words`, `form`, `limits`: as for the sum.
@@ -261,7 +142,7 @@ pub extern "C" fn nxa_mirror(record: &[u8], out: &mut [u8]) -> Reply
     ensures form { λ r. ⌜ (r .number ≡ 0 → MinimalRecord (lettersOf (now («record» .entry))) (reversal (languageOf (now («record» .entry)))) (take (r .length) (now (out .exit)))) ⌝ }
     ensures limits { λ r. ⌜ Limits (refusal 11 0) maxStates (WellFormed (now («record» .entry))) (IsDimension (lettersOf (now («record» .entry))) (reversal (languageOf (now («record» .entry))))) r ⌝ }
 {
-    of_written(operations::mirror(record, out))
+    replies::of_written(operations::mirror(record, out))
 }
 
 // Gives out a record of the catalogue by its number. Where the reply's number is 0, the first `length` bytes of the buffer are a
@@ -275,7 +156,7 @@ pub extern "C" fn nxa_catalogue(number: usize, out: &mut [u8]) -> Reply
     ensures dimension { λ r. ⌜ (r .number ≡ 0 → IsDimension (lettersAt number) (wordsOf number) (statesOf (take (r .length) (now (out .exit))))) ⌝ }
     ensures minimal { λ r. ⌜ (r .number ≡ 0 → encode (lettersAt number) (minimalOf (lettersAt number) (automatonOf (take (r .length) (now (out .exit))))) ≡ take (r .length) (now (out .exit))) ⌝ }
 {
-    of_written(catalogue::give(number, out))
+    replies::of_written(catalogue::give(number, out))
 }
 
 // Writes the line of a script's record by its index, or no bytes where marking ends before it; it refuses only with 12.
@@ -290,5 +171,5 @@ pub extern "C" fn nxa_mark(script: &[u8], index: usize, out: &mut [u8]) -> Reply
     ensures room { λ _. ⌜ length (markLine (now (script .entry)) index) ≤ longest ⌝ }
     ensures told { λ r. ⌜ (length (now (script .entry)) ≤ maxScript → r .number ≡ 0 → Told (now (script .entry)) index (take (r .length) (now (out .exit)))) ⌝ }
 {
-    of_written(marking::mark(script, index, out))
+    replies::of_written(marking::mark(script, index, out))
 }

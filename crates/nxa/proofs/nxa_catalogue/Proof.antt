@@ -3,7 +3,7 @@ use mathlib.Core.Path.{ap, _∙_}
 use denote.Ref.{now}
 use lib.ListN.{length}
 use Rattle.catalogue.specs.Entries.{catalogueOf}
-use Rattle.nxa.specs.Reply.{ofWritten}
+use Rattle.replies.specs.Reply.{ofWritten}
 use Rattle.nxa.proofs.Granted.{written-granted, catalogue-reasoned}
 use borrow.Author.Needs.{needs}
 use Rattle.nxa.proofs.nxa_catalogue.Statement.{statement}

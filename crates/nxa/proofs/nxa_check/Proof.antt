@@ -1,7 +1,7 @@
 -- `nxa_check`: the reply of what the check finds, and that no refusal has number 0.
 use mathlib.Core.Path.{ap, _∙_}
 use denote.Ref.{now}
-use Rattle.nxa.specs.Reply.{ofChecked}
+use Rattle.replies.specs.Reply.{ofChecked}
 use Rattle.nxa.proofs.Granted.{check-granted, check-grants}
 use borrow.Author.Needs.{needs}
 use Rattle.nxa.proofs.nxa_check.Statement.{statement}

@@ -3,7 +3,7 @@ use mathlib.Core.Path.{sym, ap, _∙_}
 use denote.Ref.{now}
 use lib.ListN.{length}
 use Rattle.record.specs.Record.{automatonOf}
-use Rattle.nxa.specs.Reply.{ofCompared}
+use Rattle.replies.specs.Reply.{ofCompared}
 use Rattle.nxa.proofs.Compared.{same-granted, grants-same, differs-granted, told-withheld}
 use borrow.Author.Needs.{needs}
 use Rattle.nxa.proofs.nxa_compare.Statement.{statement}

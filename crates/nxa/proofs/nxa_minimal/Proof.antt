@@ -4,7 +4,7 @@ use denote.Ref.{now}
 use lib.ListN.{length}
 use Rattle.automata.specs.MinimalOf.{dimensionOf}
 use Rattle.record.specs.Record.{lettersOf, automatonOf}
-use Rattle.nxa.specs.Reply.{ofMinimised}
+use Rattle.replies.specs.Reply.{ofMinimised}
 use Rattle.nxa.proofs.Granted.{minimal-granted}
 use borrow.Author.Needs.{needs}
 use Rattle.nxa.proofs.nxa_minimal.Statement.{statement}

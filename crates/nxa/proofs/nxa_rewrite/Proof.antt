@@ -1,6 +1,6 @@
 -- `nxa_rewrite`: the reply of what the service answers.
 use mathlib.Core.Path.{ap, _∙_}
-use Rattle.nxa.specs.Reply.{ofWritten}
+use Rattle.replies.specs.Reply.{ofWritten}
 use borrow.Author.Needs.{needs}
 use Rattle.nxa.proofs.nxa_rewrite.Statement.{statement}
 use Rattle.nxa.proofs.nxa_rewrite.Tie as tie

@@ -1,6 +1,6 @@
 -- `nxa_test`: the reply of what the test answers.
 use mathlib.Core.Path.{ap, _∙_}
-use Rattle.nxa.specs.Reply.{ofTested}
+use Rattle.replies.specs.Reply.{ofTested}
 use borrow.Author.Needs.{needs}
 use Rattle.nxa.proofs.nxa_test.Statement.{statement}
 use Rattle.nxa.proofs.nxa_test.Tie as tie

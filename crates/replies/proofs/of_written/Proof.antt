@@ -1,9 +1,9 @@
 -- `of_written`: case by case.
 use mathlib.Core.Path.{sym, ap, _∙_}
-use Rattle.nxa.specs.Reply.{ofWritten}
+use Rattle.replies.specs.Reply.{ofWritten}
 use borrow.Author.Needs.{needs}
-use Rattle.nxa.proofs.of_written.Statement.{statement}
-use Rattle.nxa.proofs.of_written.Tie as tie
+use Rattle.replies.proofs.of_written.Statement.{statement}
+use Rattle.replies.proofs.of_written.Tie as tie
 
 enum-known-w : tie.Need-enum-known-w
 enum-known-w c = search needs

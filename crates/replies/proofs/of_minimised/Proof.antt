@@ -1,9 +1,9 @@
 -- `of_minimised`: case by case.
 use mathlib.Core.Path.{sym, ap, _∙_}
-use Rattle.nxa.specs.Reply.{ofMinimised}
+use Rattle.replies.specs.Reply.{ofMinimised}
 use borrow.Author.Needs.{needs}
-use Rattle.nxa.proofs.of_minimised.Statement.{statement}
-use Rattle.nxa.proofs.of_minimised.Tie as tie
+use Rattle.replies.proofs.of_minimised.Statement.{statement}
+use Rattle.replies.proofs.of_minimised.Tie as tie
 
 enum-known-m : tie.Need-enum-known-m
 enum-known-m c = search needs

@@ -1,9 +1,9 @@
 -- `side_number`: case by case.
 use mathlib.Core.Path.{sym, ap}
 use borrow.Author.Needs.{needs}
-use Rattle.nxa.specs.Reply.{sideNumber}
-use Rattle.nxa.proofs.side_number.Statement.{statement}
-use Rattle.nxa.proofs.side_number.Tie as tie
+use Rattle.replies.specs.Reply.{sideNumber}
+use Rattle.replies.proofs.side_number.Statement.{statement}
+use Rattle.replies.proofs.side_number.Tie as tie
 
 enum-told : tie.Need-enum-told
 enum-told c = search needs

@@ -1,9 +1,9 @@
 -- `of_compared`: case by case.
 use mathlib.Core.Path.{sym, ap, _∙_}
-use Rattle.nxa.specs.Reply.{ofCompared}
+use Rattle.replies.specs.Reply.{ofCompared}
 use borrow.Author.Needs.{needs}
-use Rattle.nxa.proofs.of_compared.Statement.{statement}
-use Rattle.nxa.proofs.of_compared.Tie as tie
+use Rattle.replies.proofs.of_compared.Statement.{statement}
+use Rattle.replies.proofs.of_compared.Tie as tie
 
 enum-told : tie.Need-enum-told
 enum-told c = search needs

@@ -6,7 +6,7 @@
 --   ofMinimised    the minimal service: the bytes written, and the dimension as value
 --   ofCompared     a comparison: value 0 where the languages are the same, else the record that accepts the word; its letters as length
 use Prim.Native.Nat.{ℕ}
-use Rattle.nxa.specs.declared.Reply.{Reply}
+use Rattle.replies.specs.declared.Reply.{Reply}
 use Rattle.record.specs.declared.Checked.{Checked}
 use Rattle.record.specs.declared.Checked.the-variants.{Good, Refused as NotGood}
 use Rattle.record.specs.declared.Written.{Written}

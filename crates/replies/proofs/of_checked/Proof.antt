@@ -1,9 +1,9 @@
 -- `of_checked`: case by case.
 use mathlib.Core.Path.{sym, ap, _∙_}
-use Rattle.nxa.specs.Reply.{ofChecked}
+use Rattle.replies.specs.Reply.{ofChecked}
 use borrow.Author.Needs.{needs}
-use Rattle.nxa.proofs.of_checked.Statement.{statement}
-use Rattle.nxa.proofs.of_checked.Tie as tie
+use Rattle.replies.proofs.of_checked.Statement.{statement}
+use Rattle.replies.proofs.of_checked.Tie as tie
 
 enum-told : tie.Need-enum-told
 enum-told c = search needs

@@ -1,9 +1,9 @@
 -- `of_tested`: case by case.
 use mathlib.Core.Path.{sym, ap, _∙_}
-use Rattle.nxa.specs.Reply.{ofTested}
+use Rattle.replies.specs.Reply.{ofTested}
 use borrow.Author.Needs.{needs}
-use Rattle.nxa.proofs.of_tested.Statement.{statement}
-use Rattle.nxa.proofs.of_tested.Tie as tie
+use Rattle.replies.proofs.of_tested.Statement.{statement}
+use Rattle.replies.proofs.of_tested.Tie as tie
 
 enum-told : tie.Need-enum-told
 enum-told c = search needs

@@ -1,0 +1,2 @@
+-- The definitions that the contracts of the replies cite.
+pub mod Reply
