@@ -7,14 +7,11 @@ ghost use lib.ListN.{length, take};
 ghost use Rattle.automata.specs.Language.{Same};
 ghost use Rattle.automata.specs.Dimension.{IsDimension};
 ghost use Rattle.automata.specs.FirstDifference.{FirstDifference};
-ghost use Rattle.rows.specs.Table.{size};
-ghost use Rattle.comparison.specs.Sum.{Judged};
 ghost use Rattle.record.specs.Record.{lettersOf, WellFormed, automatonOf, languageOf};
 ghost use Rattle.record.specs.Outcome.{bufferOf};
 ghost use Rattle.compare.specs.Compare.{differenceOf, compareOutcome, sideOf, acceptorOf, refusedAs, comparedAs};
 use comparison::Verdict;
 use operands::Pair;
-use rows::Table;
 
 // Which of two records accepts a word.
 pub enum Side {
@@ -61,18 +58,6 @@ fn named_side(first: bool) -> Side
     if first { Side::First } else { Side::Second }
 }
 
-// Compares two well-formed records over the same letters; b is left with the words of the rows found.
-pub fn judge(first: &[u8], second: &[u8], b: &mut Table) -> Verdict
-    requires { ⌜ WellFormed (now first) × WellFormed (now second) × (lettersOf (now first) ≡ lettersOf (now second)) × (length (now b) ≡ size) ⌝ }
-    ensures { λ r. ⌜ Judged (lettersOf (now (first .entry))) (automatonOf (now (first .entry))) (automatonOf (now (second .entry))) (now (b .exit)) r ⌝ }
-{
-    let mut t = [0u64; 512];
-    let mut u = [0u64; 512];
-    let g = codec::read(first, &mut t);
-    let h = codec::read(second, &mut u);
-    comparison::compare(&mut t, g, &u, h, b)
-}
-
 // Compares two records and writes the first word that just one accepts. For two well-formed records over the same letters:
 // `same`: Same comes exactly when every word over the letters, of any length, is accepted by both or by neither.
 // `first`: otherwise the word is the first such word in shortlex order, the side named accepts it, and it has fewer letters than the
@@ -89,8 +74,8 @@ pub fn compare(first: &[u8], second: &[u8], word: &mut [u8]) -> Compared
     let Pair::Both = p else {
         return refuse(p);
     };
-    let mut b = [0u64; 512];
-    let v = judge(first, second, &mut b);
+    let mut w = [0u8; 128];
+    let v = comparison::compare(first, second, &mut w);
     let Verdict::Differs {
         row,
         first: by_first,
@@ -99,7 +84,7 @@ pub fn compare(first: &[u8], second: &[u8], word: &mut [u8]) -> Compared
         return Compared::Same;
     };
     let a = record::size(first[6]);
-    let n = comparison::depth(&b, a, row);
+    let n = trail::depth(&w, a, row);
     if word.len() < n {
         return Compared::Refused {
             number: 12,
@@ -107,7 +92,7 @@ pub fn compare(first: &[u8], second: &[u8], word: &mut [u8]) -> Compared
             place: n,
         };
     }
-    comparison::trace(&b, a, row, n, word);
+    trail::trace(&w, a, row, n, word);
     let s = named_side(by_first);
     Compared::Differs { length: n, side: s }
 }

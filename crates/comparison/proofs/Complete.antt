@@ -25,13 +25,8 @@ use Rattle.automata.proofs.Results.{tree-same, tree-differs}
 use Rattle.elimination.specs.Echelon.{onto, rest, Extended}
 use Rattle.reduction.specs.Search.{Search}
 use Rattle.elimination.proofs.EchelonLaws.{coordinates, coef-short, onto-thin, echelon-add}
+use Rattle.elimination.proofs.PlaceLaws.{if-same, if-other, ownOf, coefOf}
 use Rattle.reduction.proofs.SearchLaws.{search-next, search-old, search-new, search-tree}
-
-if-same : {X : Type 0} (m : ℕ) (x y : X) → cond (eqb m m) x y ≡ x
-if-same m x y = ap (λ b. cond b x y) (eqb-same m)
-
-if-other : {X : Type 0} (i m : ℕ) (x y : X) → (i ≡ m → ⊥) → cond (eqb i m) x y ≡ y
-if-other i m x y h = ap (λ b. cond b x y) (eqb-differ {m = i} {n = m} h)
 
 -- ---- one more product
 
@@ -126,7 +121,7 @@ module _ (a : ℕ) (A : Automaton) (thin : (l i j : ℕ) → l < a → i < A .st
         (λ r h j. ap (λ w. w j) (old-row r h)) (λ j. ap (λ w. w j) (if-same d y (R d))) old-from (if-same d k (from d)) old-by (if-same d l (by d)) (λ r. ap (λ w. w r) (with-new S k l u))))
       where
         own : ℕ → Bool
-        own i = onto n P C y i ⊕ eqb i d
+        own = ownOf n d P C y
 
         u : ℕ → Bool
         u r = eqb r d
@@ -141,7 +136,7 @@ module _ (a : ℕ) (A : Automaton) (thin : (l i j : ℕ) → l < a → i < A .st
         E′ j k = cond (eqb j q) (rest n P E y k) (E j k ⊕ (E j q && rest n P E y k))
 
         C′ : ℕ → ℕ → Bool
-        C′ j i = cond (eqb j q) (own i) (C j i ⊕ (E j q && own i))
+        C′ = coefOf E C own q
 
         from′ : ℕ → ℕ
         from′ r = cond (eqb r d) k (from r)
@@ -162,9 +157,9 @@ module _ (a : ℕ) (A : Automaton) (thin : (l i j : ℕ) → l < a → i < A .st
         extended = record {
           row-old = λ i j h. ap (λ w. w j) (old-row i h);
           row-new = λ j. ap (λ w. w j) (if-same d y (R d));
-          base-old = λ j i h z. if-other j q (rest n P E y i) (E j i ⊕ (E j q && rest n P E y i)) z;
+          base-old = λ j i h p z. if-other j q (rest n P E y i) (E j i ⊕ (E j q && rest n P E y i)) z;
           base-new = λ i. if-same q (rest n P E y i) (E q i ⊕ (E q q && rest n P E y i));
-          coef-old = λ j i h z. if-other j q (own i) (C j i ⊕ (E j q && own i)) z;
+          coef-old = λ j i h p z. if-other j q (own i) (C j i ⊕ (E j q && own i)) z;
           coef-new = λ i. if-same q (own i) (C q i ⊕ (E q q && own i));
           pivots = λ j. refl;
         }

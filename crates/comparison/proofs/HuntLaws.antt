@@ -1,5 +1,5 @@
 -- The search for the first accepted row, pair by pair.
-use mathlib.Core.Path.{_≡_, sym, ap, _∙_}
+use mathlib.Core.Path.{_≡_, sym, ap, subst, _∙_}
 use mathlib.Core.Bool.{Bool, true, false, _&&_, false≢true}
 use mathlib.Core.List.{List}
 use mathlib.Core.Logic.{inl, inr}
@@ -12,121 +12,177 @@ use Rattle.automata.specs.Mask.{bitOf}
 use Rattle.automata.proofs.Xor.{xor-none}
 use Rattle.automata.proofs.Below.{up-to}
 use Rattle.rows.specs.Row.{width}
-use Rattle.rows.specs.Table.{size, at, row}
+use Rattle.rows.specs.Table.{at, row}
 use Rattle.rows.specs.Product.{product}
-use Rattle.rows.specs.Machine.{auto, Bounded}
-use Rattle.elimination.specs.Place.{Placed}
+use Rattle.rows.specs.Machine.{autoBy}
+use Rattle.basis.specs.Basis.{basisSize}
+use Rattle.trail.specs.Trail.{trailSize, fromIn, byIn, linked}
+use Rattle.trail.proofs.LinkLaws.{linked-length, linked-from, linked-by, linked-from-new, linked-by-new}
+use Rattle.elimination.specs.Place.{BasisIn, Old, New, Placed}
 use Rattle.reduction.specs.Tables.{SearchIn, accepted}
 use Rattle.reduction.proofs.SearchLaws.{search-next}
-use Rattle.reduction.proofs.TableSearch.{count-bound, found-low, placed-length, search-start, search-placed}
+use Rattle.reduction.proofs.TableSearch.{count-bound, empty-cover, placed-length, placed-cover, search-start, search-old-row, search-new-row}
 use Rattle.comparison.specs.Hunt.{Hunting, Stopped}
 use Rattle.comparison.proofs.Complete.{withRow, with-kept, with-new}
 
--- A row that is as it was is accepted as it was.
-same-row : (n f : ℕ) (b b′ : List ℕ) (r : ℕ) → at b′ 2 r ≡ at b 2 r → accepted n b′ f r ≡ accepted n b f r
-same-row n f b b′ r e = ap (λ x. xorBelow n (λ j. bitOf x j && bitOf f j)) e
+-- The parity of y and f, of n bits.
+abbrev pub shared : ℕ → ℕ → ℕ → Bool
+shared n y f = xorBelow n (λ j. bitOf y j && bitOf f j)
 
 -- ---- the initial row
 
-module _ (a : ℕ) (t : List ℕ) (n i f : ℕ) (b b′ : List ℕ) (c d p : ℕ) (P : Placed n 0 0 i 0 0 b b′ c d p) where
+module _ (a : ℕ) (M : ℕ → ℕ → ℕ) (n i f : ℕ) (C C′ : ℕ → ℕ → Bool) (c : ℕ → Bool) (b b′ w : List ℕ) (d p v : ℕ) (P : Placed n 0 0 0 i C C′ c b b′ d p v) where
   -- No product is done yet.
   nothing : ℕ → ℕ → ℕ → Bool
   nothing x j r = false
 
-  first-row : Placed n 0 0 i 0 0 b b′ c d p → (r : ℕ) → r < d → (r ≡ 0) × (at b′ 2 r ≡ i)
+  first-row : Placed n 0 0 0 i C C′ c b b′ d p v → (r : ℕ) → r < d → (r ≡ 0) × (at b′ 1 r ≡ i)
   first-row (inl O) r h = absurd (omega (arith, O .count))
   first-row (inr N) r h =
       let z : r ≡ 0 = omega (arith, N .count) in
-      (z, ap (at b′ 2) z ∙ N .row-new)
+      (z, ap (at b′ 1) z ∙ N .row-new)
 
-  pub hunting-start : length b ≡ size → xorBelow n (λ j. bitOf i j && bitOf f j) ≡ false → Hunting a t n i f b′ d 0 0 p
-  hunting-start h e = record {
+  pub hunting-start : length b ≡ basisSize → length w ≡ trailSize → shared n i f ≡ false → Hunting a M n i f b′ w d 0 0 p v
+  hunting-start h g e = record {
+    coef = C′;
     made = nothing;
-    search = search-start a t n i f b b′ nothing c d p P;
-    base = placed-length n 0 0 i 0 0 b b′ c d p h P;
-    none = λ r g. ap (λ x. xorBelow n (λ j. bitOf x j && bitOf f j)) (first-row P r g .1) ∙ e;
+    search = search-start a M n i f C C′ c b b′ (fromIn w) (byIn w) nothing d p v P;
+    cover = placed-cover n 0 0 0 i C C′ c b b′ d p v (empty-cover 0 b) P;
+    base = placed-length n 0 0 0 i C C′ c b b′ d p v h P;
+    trail = g;
+    none = λ r g. ap (λ x. shared n x f) (first-row P r g .1) ∙ e;
   }
 
   -- An accepted initial row is a row found.
-  pub stopped-start : xorBelow n (λ j. bitOf i j && bitOf f j) ≡ true → Stopped a t n i f b′ 0
+  pub stopped-start : shared n i f ≡ true → Stopped a M n i f b′ w 0
   stopped-start e = record {
+    coef = C′;
     made = nothing;
     count = d;
     upto = 0;
     next = 0;
     pivots = p;
-    search = search-start a t n i f b b′ nothing c d p P;
+    search = search-start a M n i f C C′ c b b′ (fromIn w) (byIn w) nothing d p v P;
     inside = (some P, some P, omega arith);
-    found = ap (λ x. xorBelow n (λ j. bitOf x j && bitOf f j)) (first-row P 0 (some P) .1) ∙ e;
+    found = ap (λ x. shared n x f) (first-row P 0 (some P) .1) ∙ e;
     first = λ q h. absurd (omega arith);
   }
     where
-      some : Placed n 0 0 i 0 0 b b′ c d p → 0 < d
+      some : Placed n 0 0 0 i C C′ c b b′ d p v → 0 < d
       some (inl O) = absurd (false≢true (sym (xor-none n (λ j g. ap (λ z. z && bitOf f j) (O .sum j))) ∙ e))
       some (inr N) = omega (arith, N .count)
 
 -- ---- one pair
 
-module _ (a : ℕ) (t : List ℕ) (n i f : ℕ) (ok : Bounded a t n i f) (b : List ℕ) (d k l p : ℕ) (H : Hunting a t n i f b d k l p) (hk : k < d) (hl : l < a)
-    (c e p′ : ℕ) (b′ : List ℕ) (P : Placed n d p (product n (at b 2 k) (at t l)) k l b b′ c e p′) where
-  abbrev made′ : ℕ → ℕ → ℕ → Bool
-  made′ = withRow (H .made) k l (bitOf c)
+module _ (a : ℕ) (M : ℕ → ℕ → ℕ) (n i f : ℕ) (hn : n ≤ width) (b w : List ℕ) (d k l p v : ℕ) (H : Hunting a M n i f b w d k l p v) (hk : k < d) (hl : l < a) (y : ℕ) (hy : y ≡ product n (at b 1 k) (M l))
+    (b′ : List ℕ) (d′ p′ v′ : ℕ) (I : (C : ℕ → ℕ → Bool) → BasisIn n d p C b → (C′ : ℕ → ℕ → Bool) × (c : ℕ → Bool) × Placed n d p v y C C′ c b b′ d′ p′ v′) where
+  abbrev C : ℕ → ℕ → Bool
+  C = H .coef
 
-  search′ : SearchIn a t n i f b′ made′ e k (l + 1) p′
-  search′ = search-placed a t n i f ok b (H .made) d k l p (H .search) hk hl c e p′ b′ made′ (λ x j h g. with-kept (H .made) k l (bitOf c) x j) (with-new (H .made) k l (bitOf c)) P
+  abbrev C′ : ℕ → ℕ → Bool
+  C′ = I C (H .search .basis) .0
+
+  abbrev c : ℕ → Bool
+  c = I C (H .search .basis) .1
+
+  P : Placed n d p v y C C′ c b b′ d′ p′ v′
+  P = I C (H .search .basis) .2
+
+  abbrev made′ : ℕ → ℕ → ℕ → Bool
+  made′ = withRow (H .made) k l c
 
   -- The rows found before are as they were.
+  pub row-kept : (r : ℕ) → r < d → at b′ 1 r ≡ at b 1 r
+  row-kept r h = go P
+    where
+      go : Placed n d p v y C C′ c b b′ d′ p′ v′ → at b′ 1 r ≡ at b 1 r
+      go (inl O) = ap (λ s. at s 1 r) (O .table)
+      go (inr N) = N .row-old r h
+
   kept : (r : ℕ) → r < d → accepted n b′ f r ≡ false
-  kept r h = go P
+  kept r h = ap (λ x. shared n x f) (row-kept r h) ∙ H .none r h
+
+  -- No row is found.
+  pub hunting-old : d′ ≤ d → Hunting a M n i f b′ w d′ k (l + 1) p′ v′ × (d ≤ d′)
+  hunting-old h = go P
     where
-      go : Placed n d p (product n (at b 2 k) (at t l)) k l b b′ c e p′ → accepted n b′ f r ≡ false
-      go (inl O) = ap (λ s. accepted n s f r) (O .table) ∙ H .none r h
-      go (inr N) = same-row n f b b′ r (N .row-old r h) ∙ H .none r h
+      go : Placed n d p v y C C′ c b b′ d′ p′ v′ → Hunting a M n i f b′ w d′ k (l + 1) p′ v′ × (d ≤ d′)
+      go (inr N) = absurd (omega (arith, N .count))
+      go (inl O) = (
+        record {
+          coef = C′;
+          made = made′;
+          search = search-old-row a M n i f b C (fromIn w) (byIn w) (H .made) d k l p (H .search) hk hl v d′ p′ v′ C′ c b′ made′ (λ x j h g. with-kept (H .made) k l c x j) (with-new (H .made) k l c) (subst (λ z. Old d p v z C C′ c b b′ d′ p′ v′) hy O);
+          cover = placed-cover n d p v y C C′ c b b′ d′ p′ v′ (H .cover) (inl O);
+          base = placed-length n d p v y C C′ c b b′ d′ p′ v′ (H .base) (inl O);
+          trail = H .trail;
+          none = λ r g. kept r (omega (arith, O .count));
+        },
+        omega (arith, O .count),
+      )
 
-  -- A new row has room, and as few bits as the others.
-  pub new-row : d < e → (d < n) × (at b′ 2 d < 2 ^ n)
-  new-row h = go P
-    where
-      go : Placed n d p (product n (at b 2 k) (at t l)) k l b b′ c e p′ → (d < n) × (at b′ 2 d < 2 ^ n)
-      go (inl O) = absurd (omega (arith, O .count))
-      go (inr N) = (N .room, found-low n (suc d) p′ b′ (N .basis) d (omega arith))
+  -- A row is found, and the trail has where it came from.
+  module _ (more : d < d′) where
+    abbrev w′ : List ℕ
+    w′ = linked w d k l
 
-  pub hunting-step : (d < e → accepted n b′ f d ≡ false) → Hunting a t n i f b′ e k (l + 1) p′ × (d ≤ e)
-  hunting-step z = (
-    record { made = made′; search = search′; base = placed-length n d p (product n (at b 2 k) (at t l)) k l b b′ c e p′ (H .base) P; none = all P },
-    more P,
-  )
-    where
-      all : Placed n d p (product n (at b 2 k) (at t l)) k l b b′ c e p′ → (r : ℕ) → r < e → accepted n b′ f r ≡ false
-      all (inl O) r h = kept r (omega (arith, O .count))
-      all (inr N) r h = up-to {Q = λ r. accepted n b′ f r ≡ false} d kept (z (omega (arith, N .count))) r (omega (arith, N .count))
+    new : New n d y C′ c b b′ d′ p′ v′
+    new = go P
+      where
+        go : Placed n d p v y C C′ c b b′ d′ p′ v′ → New n d y C′ c b b′ d′ p′ v′
+        go (inl O) = absurd (omega (arith, O .count))
+        go (inr N) = N
 
-      more : Placed n d p (product n (at b 2 k) (at t l)) k l b b′ c e p′ → d ≤ e
-      more (inl O) = omega (arith, O .count)
-      more (inr N) = omega (arith, N .count)
+    pub new-below : d < width
+    new-below = omega (arith, new .room)
 
-  pub stopped-step : d < e → accepted n b′ f d ≡ true → Stopped a t n i f b′ d
-  stopped-step h z = record {
-    made = made′;
-    count = e;
-    upto = k;
-    next = l + 1;
-    pivots = p′;
-    search = search′;
-    inside = (h, omega arith, omega arith);
-    found = z;
-    first = kept;
-  }
+    pub accepted-new : accepted n b′ f d ≡ shared n y f
+    accepted-new = ap (λ x. shared n x f) (new .row-new)
+
+    search′ : SearchIn a M n i f b′ C′ (fromIn w′) (byIn w′) made′ d′ k (l + 1) p′
+    search′ = search-new-row a M n i f b C (fromIn w) (byIn w) (H .made) d k l p (H .search) hk hl v d′ p′ v′ C′ c b′ made′ (λ x j h g. with-kept (H .made) k l c x j) (with-new (H .made) k l c)
+        (fromIn w′) (byIn w′) (linked-from w d k l new-below) (linked-from-new w d k l new-below (H .trail)) (linked-by w d k l new-below) (linked-by-new w d k l new-below (H .trail)) (subst (λ z. New n d z C′ c b b′ d′ p′ v′) hy new)
+
+    pub hunting-new : shared n y f ≡ false → Hunting a M n i f b′ w′ d′ k (l + 1) p′ v′ × (d ≤ d′)
+    hunting-new z = (
+      record {
+        coef = C′;
+        made = made′;
+        search = search′;
+        cover = placed-cover n d p v y C C′ c b b′ d′ p′ v′ (H .cover) P;
+        base = new .size;
+        trail = linked-length w d k l new-below ∙ H .trail;
+        none = λ r h. up-to {Q = λ r. accepted n b′ f r ≡ false} d kept (accepted-new ∙ z) r (omega (arith, new .count));
+      },
+      omega arith,
+    )
+
+    pub stopped-new : shared n y f ≡ true → Stopped a M n i f b′ w′ d
+    stopped-new z = record {
+      coef = C′;
+      made = made′;
+      count = d′;
+      upto = k;
+      next = l + 1;
+      pivots = p′;
+      search = search′;
+      inside = (more, omega arith, omega arith);
+      found = accepted-new ∙ z;
+      first = kept;
+    }
 
 -- The next row, from its first letter.
-pub hunting-next : (a : ℕ) (t : List ℕ) (n i f : ℕ) (b : List ℕ) (d k p : ℕ) → Hunting a t n i f b d k a p → Hunting a t n i f b d (k + 1) 0 p
-hunting-next a t n i f b d k p H = record {
+pub hunting-next : (a : ℕ) (M : ℕ → ℕ → ℕ) (n i f : ℕ) (b w : List ℕ) (d k p v : ℕ) → Hunting a M n i f b w d k a p v → Hunting a M n i f b w d (k + 1) 0 p v
+hunting-next a M n i f b w d k p v H = record {
+  coef = H .coef;
   made = H .made;
-  search = rw (add-one k) (search-next a (auto t n i f) (bitOf p) (row b 2) (row b 0) (row b 1) (at b 3) (at b 4) (H .made) d k (H .search));
+  search = rw (add-one k) (search-next a (autoBy M n i f) (bitOf p) (row b 1) (row b 0) (H .coef) (fromIn w) (byIn w) (H .made) d k (H .search));
+  cover = H .cover;
   base = H .base;
+  trail = H .trail;
   none = H .none;
 }
 
 -- A row found is one of as many rows as a row has bits.
-pub stopped-bound : (a : ℕ) (t : List ℕ) (n i f : ℕ) (b : List ℕ) (r : ℕ) → n ≤ width → Stopped a t n i f b r → r < width
-stopped-bound a t n i f b r h H = omega (arith, count-bound n (H .count) (H .pivots) b (H .search .basis), H .inside .0)
+pub stopped-bound : (a : ℕ) (M : ℕ → ℕ → ℕ) (n i f : ℕ) (b w : List ℕ) (r : ℕ) → n ≤ width → Stopped a M n i f b w r → r < width
+stopped-bound a M n i f b w r h H = omega (arith, count-bound n (H .count) (H .pivots) (H .coef) b (H .search .basis), H .inside .0)

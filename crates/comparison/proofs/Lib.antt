@@ -1,5 +1,4 @@
 pub mod Complete
-pub mod SumLaws
-pub mod TraceLaws
 pub mod HuntLaws
+pub mod BothLaws
 pub mod JudgeLaws

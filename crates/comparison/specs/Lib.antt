@@ -1,3 +1,4 @@
 -- The definitions that the contracts of the comparison cite.
+pub mod Both
 pub mod Hunt
-pub mod Sum
+pub mod Judged

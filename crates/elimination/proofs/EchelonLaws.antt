@@ -164,7 +164,8 @@ module _ (n m : ℕ) (P : ℕ → Bool) (R E C : ℕ → ℕ → Bool) (F : Eche
               ∙ at-new (v q) (E q k) r (E q q)
               ∙ ap₂ (λ p x. (((v q && p) && E q k) ⊕ (((v q && p) && E q q) && r)) ⊕ (x && (v q && r))) (sym not-pivot) (sym (eqb-same q)))
           go (no d) =
-              ap₂ (λ p x. (v j && p) && x) (X .pivots j ∙ ap (λ b. P j ⊕ b) (eqb-differ d) ∙ xor-false (P j)) (X .base-old j k h d)
+              ap (λ p. (v j && p) && E′ j k) (X .pivots j ∙ ap (λ b. P j ⊕ b) (eqb-differ d) ∙ xor-false (P j))
+              ∙ gate (v j) (P j) (E′ j k) (E j k ⊕ (E j q && r)) (λ p. X .base-old j k h p d)
               ∙ at-old (v j) (P j) (E j k) r (E j q)
               ∙ ap (λ x. (((v j && P j) && E j k) ⊕ (((v j && P j) && E j q) && r)) ⊕ (x && (v j && r))) (sym (eqb-differ d))
 
@@ -201,23 +202,23 @@ module _ (n m : ℕ) (P : ℕ → Bool) (R E C : ℕ → ℕ → Bool) (F : Eche
       sum′ j h k (inl d) = subst (λ j. E′ j k ≡ comb (suc m) (C′ j) R′ k) (sym d)
           (X .base-new k ∙ sym (own-sum k) ∙ xor-cong (suc m) (λ i g. ap (λ b. b && R′ i k) (sym (X .coef-new i))))
       sum′ j h k (inr (d, p)) =
-          X .base-old j k h d
+          X .base-old j k h p d
           ∙ ap₂ _⊕_ (sym (old-sum j h p k)) (ap (λ b. E j q && b) (sym (own-sum k)) ∙ sym (xor-scale (suc m) (E j q) (λ i. own i && R′ i k)) ∙ xor-cong (suc m) (λ i g. sym (and-assoc (E j q) (own i) (R′ i k))))
           ∙ sym (xor-coef (suc m) (C j) (λ i. E j q && own i) (λ i. R′ i k))
-          ∙ xor-cong (suc m) (λ i g. ap (λ b. b && R′ i k) (sym (X .coef-old j i h d)))
+          ∙ xor-cong (suc m) (λ i g. ap (λ b. b && R′ i k) (sym (X .coef-old j i h p d)))
 
       unit′ : (i j : ℕ) → i < n → j < n → (i ≡ q) ⊎ ((i ≡ q → ⊥) × (P i ≡ true)) → (j ≡ q) ⊎ ((j ≡ q → ⊥) × (P j ≡ true)) → E′ i j ≡ eqb i j
       unit′ i j h g (inl d) (inl f) = ap₂ E′ d f ∙ X .base-new q ∙ e ∙ sym (ap₂ eqb d f ∙ eqb-same q)
       unit′ i j h g (inl d) (inr (f, p)) = ap (λ x. E′ x j) d ∙ X .base-new j ∙ rest-clear n m P R E C F y j g p ∙ sym (ap (λ x. eqb x j) d ∙ eqb-differ (λ z. f (sym z)))
       unit′ i j h g (inr (d, p)) (inl f) =
-          X .base-old i j h d ∙ ap₂ (λ x z. x ⊕ (E i q && z)) (ap (E i) f) (ap (rest n P E y) f ∙ e) ∙ cancel (E i q)
+          X .base-old i j h p d ∙ ap₂ (λ x z. x ⊕ (E i q && z)) (ap (E i) f) (ap (rest n P E y) f ∙ e) ∙ cancel (E i q)
           ∙ sym (ap (eqb i) f ∙ eqb-differ d)
         where
           cancel : (b : Bool) → b ⊕ (b && true) ≡ false
           cancel true = refl
           cancel false = refl
       unit′ i j h g (inr (d, p)) (inr (f, r)) =
-          X .base-old i j h d ∙ ap₂ (λ x z. x ⊕ (E i q && z)) (F .unit i j h g p r) (rest-clear n m P R E C F y j g r)
+          X .base-old i j h p d ∙ ap₂ (λ x z. x ⊕ (E i q && z)) (F .unit i j h g p r) (rest-clear n m P R E C F y j g r)
           ∙ ap (λ b. eqb i j ⊕ b) (and-false (E i q)) ∙ xor-false (eqb i j)
 
       short′ : (j i : ℕ) → j < n → suc m ≤ i → (j ≡ q) ⊎ ((j ≡ q → ⊥) × (P j ≡ true)) → C′ j i ≡ false
@@ -225,6 +226,6 @@ module _ (n m : ℕ) (P : ℕ → Bool) (R E C : ℕ → ℕ → Bool) (F : Eche
         where
           none : (i : ℕ) → suc m ≤ i → own i ≡ false
           none i g = ap₂ _⊕_ (coef-short n m P R E C F y i (omega arith)) (gt-differ i m g)
-      short′ j i h g (inr (d, p)) = X .coef-old j i h d
+      short′ j i h g (inr (d, p)) = X .coef-old j i h p d
           ∙ ap₂ (λ x z. x ⊕ (E j q && z)) (F .short j i h p (omega arith)) (ap₂ _⊕_ (coef-short n m P R E C F y i (omega arith)) (gt-differ i m g))
           ∙ and-false (E j q)

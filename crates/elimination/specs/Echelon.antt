@@ -31,8 +31,8 @@ pub record Echelon (n m : ℕ) (P : ℕ → Bool) (R E C : ℕ → ℕ → Bool)
 pub record Extended (n m : ℕ) (P : ℕ → Bool) (R E C : ℕ → ℕ → Bool) (y : ℕ → Bool) (q : ℕ) (P′ : ℕ → Bool) (R′ E′ C′ : ℕ → ℕ → Bool) : Type 0 where
   pub row-old : (i k : ℕ) → i < m → R′ i k ≡ R i k
   pub row-new : (k : ℕ) → R′ m k ≡ y k
-  pub base-old : (j k : ℕ) → j < n → (j ≡ q → ⊥) → E′ j k ≡ E j k ⊕ (E j q && rest n P E y k)
+  pub base-old : (j k : ℕ) → j < n → P j ≡ true → (j ≡ q → ⊥) → E′ j k ≡ E j k ⊕ (E j q && rest n P E y k)
   pub base-new : (k : ℕ) → E′ q k ≡ rest n P E y k
-  pub coef-old : (j i : ℕ) → j < n → (j ≡ q → ⊥) → C′ j i ≡ C j i ⊕ (E j q && (onto n P C y i ⊕ eqb i m))
+  pub coef-old : (j i : ℕ) → j < n → P j ≡ true → (j ≡ q → ⊥) → C′ j i ≡ C j i ⊕ (E j q && (onto n P C y i ⊕ eqb i m))
   pub coef-new : (i : ℕ) → C′ q i ≡ onto n P C y i ⊕ eqb i m
   pub pivots : (j : ℕ) → P′ j ≡ P j ⊕ eqb j q

@@ -1,50 +1,68 @@
--- A table as a reduced basis, and a row placed in it. Blocks 0 and 1 hold the basis rows and their coefficients by pivot, block 2 the
--- rows found, blocks 3 and 4 the row and the letter that each came from.
---   BasisIn n d p t    t holds d rows found, of n bits, with the pivots p
---   Placed             y is an xor of rows found (Old), or one more of them (New)
+-- A table as a reduced basis, and a row placed in it. Block 0 holds the basis rows by pivot, block 1 the rows found. C j names the rows
+-- found that make the basis row of the pivot j; it stands in block 2 where coefficients are kept.
+--   BasisIn n d p C t    t holds d rows found, of n bits, with the pivots p
+--   Covered d v t        v has every bit that one of the d rows found has
+--   Placed               y is an xor of rows found (Old), or one more of them (New)
 use mathlib.Core.Path.{_≡_}
-use mathlib.Core.Bool.{false, _&&_}
+use mathlib.Core.Bool.{Bool, true, false, _&&_}
 use mathlib.Core.List.{List}
 use mathlib.Core.Logic.{_⊎_}
-use Prim.Native.Nat.{ℕ, suc, _^_, _<_, _≤_}
+use Prim.Native.Nat.{ℕ, suc, _<_, _≤_}
 use lib.ListN.{length}
+use lib.Dec.{eqb}
 use Rattle.automata.specs.Xor.{_⊕_, comb}
 use Rattle.automata.specs.Mask.{bitOf}
 use Rattle.rows.specs.Row.{width}
-use Rattle.rows.specs.Table.{size, at, row}
+use Rattle.rows.specs.Table.{at, row}
+use Rattle.basis.specs.Basis.{basisSize}
 use Rattle.elimination.specs.Echelon.{Echelon}
 
-abbrev pub BasisIn : ℕ → ℕ → ℕ → List ℕ → Type 0
-BasisIn n d p t = Echelon n d (bitOf p) (row t 2) (row t 0) (row t 1)
+abbrev pub BasisIn : ℕ → ℕ → ℕ → (ℕ → ℕ → Bool) → List ℕ → Type 0
+BasisIn n d p C t = Echelon n d (bitOf p) (row t 1) (row t 0) C
 
--- Rows below n of block 0 that have bit q gain x, and the rows of block 1 beside them c; other blocks stay.
-pub record Folded (n q x c : ℕ) (t s : List ℕ) : Type 0 where
-  pub base : (j : ℕ) → j < n → (k : ℕ) → row s 0 j k ≡ row t 0 j k ⊕ (row t 0 j q && bitOf x k)
-  pub coef : (j : ℕ) → j < n → (k : ℕ) → row s 1 j k ≡ row t 1 j k ⊕ (row t 0 j q && bitOf c k)
-  pub other : (l i : ℕ) → 1 < l → i < width → at s l i ≡ at t l i
+abbrev pub Covered : ℕ → ℕ → List ℕ → Type 0
+Covered d v t = (i k : ℕ) → i < d → bitOf v k ≡ false → row t 1 i k ≡ false
+
+-- Where v lacks bit q, so do the basis rows.
+abbrev pub Unused : ℕ → ℕ → ℕ → ℕ → List ℕ → Type 0
+Unused n p v q t = (j : ℕ) → j < n → bitOf p j ≡ true → bitOf v q ≡ false → row t 0 j q ≡ false
+
+-- Among these rows, those of block l whose neighbours in block 0 have bit q gain x; other blocks stay.
+pub record Folded (Among : ℕ → Type 0) (l q x : ℕ) (t s : List ℕ) : Type 0 where
+  pub rows : (j : ℕ) → Among j → (k : ℕ) → row s l j k ≡ row t l j k ⊕ (row t 0 j q && bitOf x k)
+  pub other : (m i : ℕ) → (m ≡ l → ⊥) → i < width → at s m i ≡ at t m i
   pub size : length s ≡ length t
 
+-- Row y is found next; x, its part outside the basis, goes to the basis rows that have its pivot q, and is the basis row of q.
+pub record Added (n d p q x y : ℕ) (t s : List ℕ) : Type 0 where
+  pub base-old : (j : ℕ) → j < n → bitOf p j ≡ true → (j ≡ q → ⊥) → (k : ℕ) → row s 0 j k ≡ row t 0 j k ⊕ (row t 0 j q && bitOf x k)
+  pub base-new : at s 0 q ≡ x
+  pub row-old : (i : ℕ) → i < d → at s 1 i ≡ at t 1 i
+  pub row-new : at s 1 d ≡ y
+  pub other : (l i : ℕ) → 1 < l → i < width → at s l i ≡ at t l i
+  pub size : length s ≡ basisSize
+
 -- y is the xor of the rows of c, and nothing changes.
-pub record Old (d p y : ℕ) (t s : List ℕ) (c d′ p′ : ℕ) : Type 0 where
+pub record Old (d p v y : ℕ) (C C′ : ℕ → ℕ → Bool) (c : ℕ → Bool) (t s : List ℕ) (d′ p′ v′ : ℕ) : Type 0 where
   pub count : d′ ≡ d
   pub pivots : p′ ≡ p
+  pub used : v′ ≡ v
   pub table : s ≡ t
-  pub sum : (k : ℕ) → bitOf y k ≡ comb d (bitOf c) (row t 2) k
-  pub short : (i : ℕ) → d ≤ i → bitOf c i ≡ false
+  pub coef : C′ ≡ C
+  pub sum : (k : ℕ) → bitOf y k ≡ comb d c (row t 1) k
+  pub short : (i : ℕ) → d ≤ i → c i ≡ false
 
--- y is one more row, which came from row f by letter g.
-pub record New (n d y f g : ℕ) (t s : List ℕ) (c d′ p′ : ℕ) : Type 0 where
+-- y is one more row.
+pub record New (n d y : ℕ) (C′ : ℕ → ℕ → Bool) (c : ℕ → Bool) (t s : List ℕ) (d′ p′ v′ : ℕ) : Type 0 where
   pub count : d′ ≡ suc d
   pub room : d < n
-  pub basis : BasisIn n (suc d) p′ s
-  pub own : c ≡ 2 ^ d
-  pub size : length s ≡ size
-  pub row-old : (i : ℕ) → i < d → at s 2 i ≡ at t 2 i
-  pub row-new : at s 2 d ≡ y
-  pub from-old : (i : ℕ) → i < d → at s 3 i ≡ at t 3 i
-  pub from-new : at s 3 d ≡ f
-  pub by-old : (i : ℕ) → i < d → at s 4 i ≡ at t 4 i
-  pub by-new : at s 4 d ≡ g
+  pub basis : BasisIn n (suc d) p′ C′ s
+  pub cover : Covered (suc d) v′ s
+  pub own : (i : ℕ) → c i ≡ eqb i d
+  pub size : length s ≡ basisSize
+  pub row-old : (i : ℕ) → i < d → at s 1 i ≡ at t 1 i
+  pub row-new : at s 1 d ≡ y
 
-abbrev pub Placed : ℕ → ℕ → ℕ → ℕ → ℕ → ℕ → List ℕ → List ℕ → ℕ → ℕ → ℕ → Type 0
-Placed n d p y f g t s c d′ p′ = Old d p y t s c d′ p′ ⊎ New n d y f g t s c d′ p′
+-- c names the rows found that make y.
+abbrev pub Placed : ℕ → ℕ → ℕ → ℕ → ℕ → (ℕ → ℕ → Bool) → (ℕ → ℕ → Bool) → (ℕ → Bool) → List ℕ → List ℕ → ℕ → ℕ → ℕ → Type 0
+Placed n d p v y C C′ c t s d′ p′ v′ = Old d p v y C C′ c t s d′ p′ v′ ⊎ New n d y C′ c t s d′ p′ v′

@@ -1,70 +1,112 @@
-// Elimination by Gauss and Jordan over GF(2), indexed by pivot. A table is the basis: block 0 has the basis row of each pivot,
-// block 1 the rows found that make it, block 2 the rows found, blocks 3 and 4 the row and the letter that each came from.
+// Elimination by Gauss and Jordan over GF(2), indexed by pivot, in a lent basis: block 0 has the basis row of each pivot, block 1 the rows
+// found. Where the coefficients are kept, block 2 has for each pivot the rows found that make its basis row.
 ghost use mathlib.Core.Path.{_≡_};
-ghost use Prim.Native.Nat.{_^_, _≤_, _<_};
+ghost use mathlib.Core.Bool.{Bool, true};
+ghost use Prim.Native.Nat.{ℕ, _+_, _^_, _≤_, _<_};
+ghost use lib.Bits.{bitXor, bitOr};
 ghost use lib.ListN.{length};
+ghost use Rattle.automata.specs.Mask.{bitOf};
 ghost use Rattle.rows.specs.Row.{width, mask};
-ghost use Rattle.rows.specs.Table.{size};
-ghost use Rattle.elimination.specs.Place.{Folded, BasisIn, Placed};
+ghost use Rattle.rows.specs.Table.{row};
+ghost use Rattle.basis.specs.Basis.{parts, basisSize};
+ghost use Rattle.elimination.specs.Place.{Folded, Unused, Added, BasisIn, Covered, Placed};
+use basis::Basis;
 use rows::Row;
-use rows::Table;
 
-// Adds x to the rows of block 0 below n that have bit q, and c to the rows of block 1 beside them.
-pub fn fold(t: &mut Table, n: usize, q: usize, x: Row, c: Row)
-    requires { ⌜ (n ≤ width) × (q < width) × (length (now t) ≡ size) ⌝ }
-    ensures { λ r. ⌜ Folded n q (mask x) (mask c) (now (t .entry)) (now (t .exit)) ⌝ }
+// How many rows are found, their pivots, and a mask of every bit that one of them has.
+pub struct Size {
+    pub count: usize,
+    pub pivots: Row,
+    pub used: Row,
+}
+
+// Adds x to the rows of block l below n whose neighbours in block 0 have bit q.
+pub fn fold(b: &mut Basis, l: usize, n: usize, q: usize, x: Row)
+    requires { ⌜ (l < parts) × (n ≤ width) × (q < width) × (length (now b) ≡ basisSize) ⌝ }
+    ensures { λ r. ⌜ Folded (λ j. j < n) l q (mask x) (now (b .entry)) (now (b .exit)) ⌝ }
 {
     let mut j: usize = 0;
     while j < n {
-        let e = rows::load(t, 0, j);
-        let b = rows::has(e, q);
-        let u = rows::when(b, x);
-        rows::store(t, 0, j, rows::xor(e, u));
-        let d = rows::load(t, 1, j);
-        let v = rows::when(b, c);
-        rows::store(t, 1, j, rows::xor(d, v));
+        let e = basis::get(b, 0, j);
+        let o = rows::has(e, q);
+        let u = rows::when(o, x);
+        let d = basis::get(b, l, j);
+        basis::put(b, l, j, rows::xor(d, u));
         j += 1;
     }
 }
 
-// The rows found that make a row, and the count of rows and the pivots once it is placed.
-pub struct Spot {
-    pub row: Row,
-    pub count: usize,
-    pub pivots: Row,
+// The same for the rows of the pivots p, of n bits. Where no row found has bit q, no basis row has it, and nothing is to be done.
+pub fn spread(b: &mut Basis, l: usize, n: usize, p: Row, v: Row, q: usize, x: Row)
+    requires { ⌜ (l < parts) × (q < width) × (length (now b) ≡ basisSize) × Unused n (mask p) (mask v) q (now b) ⌝ }
+    ensures { λ r. ⌜ Folded (λ j. (j < n) × (bitOf (mask p) j ≡ true)) l q (mask x) (now (b .entry)) (now (b .exit)) ⌝ }
+{
+    if rows::has(v, q) {
+        fold(b, l, rows::span(p), q, x);
+    }
 }
 
-// Which of the d rows found make y; where y is no xor of them, it is one more of them, come from row f by letter g.
-pub fn place(t: &mut Table, n: usize, d: usize, p: Row, y: Row, f: usize, g: usize) -> Spot
-    requires { ⌜ (n ≤ width) × (length (now t) ≡ size) × (mask y < 2 ^ n) × BasisIn n d (mask p) (now t) ⌝ }
-    ensures { λ r. ⌜ Placed n d (mask p) (mask y) f g (now (t .entry)) (now (t .exit)) (mask (r .row)) (r .count) (mask (r .pivots)) ⌝ }
+// Row y, found next, whose part x outside the basis has the new pivot q.
+pub fn add(b: &mut Basis, n: usize, s: Size, q: usize, x: Row, y: Row) -> Size
+    requires { ⌜ (n ≤ width) × (q < width) × (s .count < width) × (length (now b) ≡ basisSize) × Unused n (mask (s .pivots)) (mask (s .used)) q (now b) ⌝ }
+    ensures { λ r. ⌜ Added n (s .count) (mask (s .pivots)) q (mask x) (mask y) (now (b .entry)) (now (b .exit)) × (r .count ≡ s .count + 1) × (mask (r .pivots) ≡ bitXor (mask (s .pivots)) (2 ^ q)) × (mask (r .used) ≡ bitOr (mask (s .used)) (mask y)) ⌝ }
 {
-    let s = rows::and(y, p);
-    let w = kernels::times_two(t, 0, 1, s);
+    let d = s.count;
+    let p = s.pivots;
+    let v = s.used;
+    spread(b, 0, n, p, v, q, x);
+    basis::put(b, 0, q, x);
+    basis::put(b, 1, d, y);
+    Size {
+        count: d + 1,
+        pivots: rows::xor(p, rows::unit(q)),
+        used: rows::or(v, y),
+    }
+}
+
+// Row y of n bits is an xor of the rows found, and nothing changes; or it is one more of them.
+pub fn insert(b: &mut Basis, n: usize, s: Size, y: Row) -> Size
+    requires { ⌜ (n ≤ width) × (length (now b) ≡ basisSize) × (mask y < 2 ^ n) × ((C : ℕ → ℕ → Bool) × BasisIn n (s .count) (mask (s .pivots)) C (now b)) × Covered (s .count) (mask (s .used)) (now b) ⌝ }
+    ensures { λ r. ⌜ ((C : ℕ → ℕ → Bool) → BasisIn n (s .count) (mask (s .pivots)) C (now (b .entry)) → (C′ : ℕ → ℕ → Bool) × (c : ℕ → Bool) × Placed n (s .count) (mask (s .pivots)) (mask (s .used)) (mask y) C C′ c (now (b .entry)) (now (b .exit)) (r .count) (mask (r .pivots)) (mask (r .used))) ⌝ }
+{
+    let p = s.pivots;
+    let z = rows::and(y, p);
+    let e = basis::times(b, 0, z);
+    let left = rows::xor(y, e);
+    if rows::is_none(left) {
+        return s;
+    }
+    let q = rows::lowest(left);
+    add(b, n, s, q, left, y)
+}
+
+// The rows found that make a row, and the rows found once it is placed.
+pub struct Spot {
+    pub row: Row,
+    pub size: Size,
+}
+
+// The same with coefficients: which of the rows found make y.
+pub fn place(b: &mut Basis, n: usize, s: Size, y: Row) -> Spot
+    requires { ⌜ (n ≤ width) × (length (now b) ≡ basisSize) × (mask y < 2 ^ n) × BasisIn n (s .count) (mask (s .pivots)) (row (now b) 2) (now b) × Covered (s .count) (mask (s .used)) (now b) ⌝ }
+    ensures { λ r. ⌜ Placed n (s .count) (mask (s .pivots)) (mask (s .used)) (mask y) (row (now (b .entry)) 2) (row (now (b .exit)) 2) (bitOf (mask (r .row))) (now (b .entry)) (now (b .exit)) (r .size .count) (mask (r .size .pivots)) (mask (r .size .used)) ⌝ }
+{
+    let d = s.count;
+    let p = s.pivots;
+    let v = s.used;
+    let z = rows::and(y, p);
+    let w = basis::times_two(b, 0, 2, z);
     let e = w.first;
     let c = w.second;
     let left = rows::xor(y, e);
     if rows::is_none(left) {
-        return Spot {
-            row: c,
-            count: d,
-            pivots: p,
-        };
+        return Spot { row: c, size: s };
     }
     let q = rows::lowest(left);
     let u = rows::unit(d);
     let own = rows::xor(c, u);
-    fold(t, n, q, left, own);
-    rows::store(t, 0, q, left);
-    rows::store(t, 1, q, own);
-    rows::store(t, 2, d, y);
-    rows::store(t, 3, d, rows::from_u64(f as u64));
-    rows::store(t, 4, d, rows::from_u64(g as u64));
-    let v = rows::unit(q);
-    let pivots = rows::xor(p, v);
-    Spot {
-        row: u,
-        count: d + 1,
-        pivots: pivots,
-    }
+    spread(b, 2, n, p, v, q, own);
+    basis::put(b, 2, q, own);
+    let t = add(b, n, s, q, left, y);
+    Spot { row: u, size: t }
 }

@@ -8,7 +8,7 @@ ghost use Rattle.automata.specs.Dimension.{IsDimension};
 ghost use Rattle.rows.specs.Row.{width, mask};
 ghost use Rattle.rows.specs.Table.{blocks, size, at};
 ghost use Rattle.rows.specs.Machine.{automatonIn, Valid};
-ghost use Rattle.comparison.specs.Sum.{Filled};
+ghost use Rattle.direct_sum.specs.Filled.{Filled};
 ghost use Rattle.record.specs.Record.{maxStates, lettersOf, languageOf};
 ghost use Rattle.record.specs.Outcome.{answerOf, bufferOf};
 ghost use Rattle.operations.specs.Operations.{MinimalRecord, Operands, Limits};

@@ -13,7 +13,8 @@ use Rattle.rows.specs.Table.{blocks}
 abbrev pub Lined : ℕ → (ℕ → ℕ) → List ℕ → Type 0
 Lined m f s = (length s ≡ blocks) × ((l : ℕ) → l < m → getD s l 0 ≡ f l)
 
-line-step : (m : ℕ) (f : ℕ → ℕ) (s : List ℕ) (v : ℕ) → m < blocks → v ≡ f m → Lined m f s → Lined (suc m) f (set s m v)
+-- One more.
+pub line-step : (m : ℕ) (f : ℕ → ℕ) (s : List ℕ) (v : ℕ) → m < blocks → v ≡ f m → Lined m f s → Lined (suc m) f (set s m v)
 line-step m f s v h e L = (
   length-set s m v ∙ L .0,
   up-to {Q = λ l. getD (set s m v) l 0 ≡ f l} m

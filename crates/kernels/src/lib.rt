@@ -1,7 +1,7 @@
 // A row times several matrices of a table in one pass over its bits: two, four, or those of all letters into a line.
 ghost use mathlib.Core.Path.{_≡_};
 ghost use Prim.Native.Nat.{ℕ, _+_, _^_, _≤_, _<_};
-ghost use lib.ListN.{length, getD};
+ghost use lib.ListN.{length, getD, set};
 ghost use Rattle.rows.specs.Row.{mask};
 ghost use Rattle.rows.specs.Table.{blocks, at};
 ghost use Rattle.rows.specs.Product.{product};
@@ -78,7 +78,7 @@ pub type Line = [u64; 8];
 // The row x times the matrices in the first a blocks, into a line.
 pub fn times_all(t: &Table, a: usize, x: Row, s: &mut Line)
     requires { ⌜ (a ≤ blocks) × (length (now s) ≡ blocks) ⌝ }
-    ensures { λ r. ⌜ ((n : ℕ) → mask x < 2 ^ n → Products a n (mask x) (now (t .entry)) (now (s .exit))) ⌝ }
+    ensures { λ r. ⌜ ((n : ℕ) → mask x < 2 ^ n → Products a n (mask x) (at (now (t .entry))) (now (s .exit))) ⌝ }
 {
     if a <= 2 {
         let p = times_two(t, 0, 1, x);
@@ -106,4 +106,12 @@ pub fn pick(s: &Line, l: usize) -> Row
     ensures { λ r. ⌜ mask r ≡ getD (now (s .entry)) l 0 ⌝ }
 {
     Row { bits: s[l] }
+}
+
+// Writes row l of a line.
+pub fn put(s: &mut Line, l: usize, x: Row)
+    requires { ⌜ l < blocks ⌝ }
+    ensures { λ _. ⌜ now (s .exit) ≡ set (now (s .entry)) l (mask x) ⌝ }
+{
+    s[l] = x.bits;
 }

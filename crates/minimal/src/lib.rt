@@ -62,10 +62,9 @@ pub fn minimal_form(bytes: &[u8], out: &mut Table) -> Machine
 {
     let mut t = [0u64; 512];
     let mut u = [0u64; 512];
-    let mut b = [0u64; 512];
-    let mut c = [0u64; 512];
+    let mut b = [0u64; 192];
     let m = codec::read(bytes, &mut t);
-    reduction::minimise(&t, m, &mut u, &mut b, &mut c, out)
+    reduction::minimise(&t, m, &mut u, &mut b, out)
 }
 
 // Writes the minimal record of a record. Where it is granted with length n and dimension d, of the first n bytes of the buffer:

@@ -16,13 +16,14 @@ use Rattle.automata.proofs.Minimal.{bits-language}
 use Rattle.automata.proofs.Operations.{accepts-sum, accepts-complement, accepts-mirror}
 use Rattle.rows.specs.declared.Machine.{Machine}
 use Rattle.rows.specs.Row.{width, mask}
-use Rattle.rows.specs.Table.{blocks}
+use Rattle.rows.specs.Table.{blocks, at, stored}
+use Rattle.rows.specs.Beside.{beside}
 use Rattle.rows.specs.Machine.{auto, automatonIn, Bounded, Valid}
 use Rattle.transpose.specs.Transposed.{Transposed}
 use Rattle.reduction.proofs.MinimiseLaws.{transposed-bounded, transposed-bits}
-use Rattle.comparison.specs.Sum.{beside, Filled}
-use Rattle.comparison.proofs.SumLaws.{filling-start, filling-step, filling-end, sum-bounded, sum-bits}
-use Rattle.rows.specs.Table.{stored}
+use Rattle.direct_sum.specs.Filled.{Filled}
+use Rattle.direct_sum.proofs.Filling.{filling-start, filling-step, filling-end}
+use Rattle.direct_sum.proofs.SumLaws.{sum-bounded, sum-bits}
 use Rattle.record.specs.Record.{lettersOf, automatonOf}
 use Rattle.record.specs.Held.{Holds}
 use Rattle.record.proofs.Held.{bits-held}
@@ -51,7 +52,7 @@ held-words bs t m H w ow = sym (bits-language (lettersOf bs) (automatonIn t m) (
 -- ---- sum
 
 module _ (t u s : List ℕ) (g h : Machine) (ok : Valid t g) (ok′ : Bounded (g .letters) u (h .states) (mask (h .initial)) (mask (h .finals)))
-    (S : Filled (g .letters) (g .states + h .states) (beside t u (g .states)) s) (small : g .states + h .states ≤ width) where
+    (S : Filled (g .letters) (g .states + h .states) (beside (at t) (at u) (g .states)) s) (small : g .states + h .states ≤ width) where
   pub sum-built : (r : Machine) → r .letters ≡ g .letters → r .states ≡ g .states + h .states
       → mask (r .initial) ≡ bitXor (mask (g .initial)) (mask (h .initial) * 2 ^ g .states) → mask (r .finals) ≡ bitXor (mask (g .finals)) (mask (h .finals) * 2 ^ g .states)
       → Built (g .letters) (symmetricDifference (accepts (automatonIn t g)) (accepts (automatonIn u h))) s r

@@ -8,7 +8,7 @@ ghost use Rattle.automata.specs.Dimension.{IsDimension};
 ghost use Rattle.rows.specs.Row.{width, mask};
 ghost use Rattle.rows.specs.Table.{blocks, size};
 ghost use Rattle.rows.specs.Machine.{automatonIn, Valid};
-ghost use Rattle.comparison.specs.Sum.{Filled};
+ghost use Rattle.direct_sum.specs.Filled.{Filled};
 ghost use Rattle.record.specs.Record.{maxStates, lettersOf, WellFormed, languageOf};
 ghost use Rattle.record.specs.Outcome.{answerOf, bufferOf};
 ghost use Rattle.operations.specs.Operations.{resultOf, refusedAs, sumOutcome, unaryLanguage, unaryOutcome, complementOutcome, mirrorOutcome, MinimalRecord, Operands, Limits};
@@ -35,10 +35,9 @@ pub fn finish(t: &Table, m: Machine, out: &mut [u8]) -> Written
     ensures buffer { λ _. ⌜ now (out .exit) ≡ bufferOf (resultOf (m .letters) (automatonIn (now (t .entry)) m) (length (now (out .entry)))) (now (out .entry)) ⌝ }
 {
     let mut u = [0u64; 512];
-    let mut b = [0u64; 512];
-    let mut c = [0u64; 512];
+    let mut b = [0u64; 192];
     let mut s = [0u64; 512];
-    let g = reduction::minimise(t, m, &mut u, &mut b, &mut c, &mut s);
+    let g = reduction::minimise(t, m, &mut u, &mut b, &mut s);
     let d = g.states;
     if MAX_STATES < d {
         return Written::Refused {
@@ -88,7 +87,7 @@ fn add(t: &mut Table, g: Machine, u: &Table, h: Machine) -> Machine
     let n = g.states;
     let k = h.states;
     let a = g.letters;
-    comparison::join(t, u, a, n, k);
+    direct_sum::join(t, u, a, n, k);
     let i = rows::moved(h.initial, n);
     let f = rows::moved(h.finals, n);
     let initial = rows::xor(g.initial, i);

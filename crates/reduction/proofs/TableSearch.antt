@@ -1,6 +1,6 @@
 -- The search in tables.
 use mathlib.Core.Path.{_≡_, refl, sym, ap, ap₂, _∙_}
-use mathlib.Core.Bool.{Bool, false, _&&_, and-false, and-true}
+use mathlib.Core.Bool.{Bool, false, _&&_, cond, and-false, and-true}
 use mathlib.Core.List.{List}
 use mathlib.Core.Logic.{inl, inr}
 use Prim.Native.Nat.{ℕ, _+_, _^_, _<_, _≤_}
@@ -18,88 +18,99 @@ use Rattle.automata.proofs.Dependence.{independent-bound}
 use Rattle.rows.specs.Row.{width}
 use Rattle.rows.specs.Table.{blocks, size, at, row, stored}
 use Rattle.rows.specs.Product.{product}
-use Rattle.rows.specs.Machine.{auto, Bounded}
+use Rattle.rows.specs.Machine.{autoBy, auto, Bounded}
 use Rattle.rows.proofs.BitLaws.{bit-xor, bit-none, bit-pow, bits-lt}
 use Rattle.rows.proofs.ProductLaws.{bit-product}
 use Rattle.rows.proofs.TableLaws.{length-stored, stored-same, stored-other}
-use Rattle.elimination.specs.Place.{BasisIn, Placed}
+use Rattle.basis.specs.Basis.{basisSize}
+use Rattle.elimination.specs.Place.{BasisIn, Covered, Old, New, Placed}
 use Rattle.elimination.proofs.EchelonLaws.{no-echelon, gt-differ}
+use Rattle.elimination.proofs.PlaceLaws.{if-same, if-other}
 use Rattle.reduction.specs.Tables.{SearchIn, Searching, accepted, Reduces, Column}
 use Rattle.reduction.proofs.SearchLaws.{search-none, search-first, search-next, search-old, search-new, search-tree}
 
-pub count-bound : (n d p : ℕ) (b : List ℕ) → BasisIn n d p b → d ≤ n
-count-bound n d p b F = independent-bound n d (row b 2) (F .free)
+pub count-bound : (n d p : ℕ) (C : ℕ → ℕ → Bool) (b : List ℕ) → BasisIn n d p C b → d ≤ n
+count-bound n d p C b F = independent-bound n d (row b 1) (F .free)
 
-pub empty-basis : (n : ℕ) (b : List ℕ) → BasisIn n 0 0 b
-empty-basis n b = no-echelon n (bitOf 0) (row b 2) (row b 0) (row b 1) bit-none
+pub empty-basis : (n : ℕ) (C : ℕ → ℕ → Bool) (b : List ℕ) → BasisIn n 0 0 C b
+empty-basis n C b = no-echelon n (bitOf 0) (row b 1) (row b 0) C bit-none
+
+pub empty-cover : (v : ℕ) (b : List ℕ) → Covered 0 v b
+empty-cover v b i k h = absurd (not-suc-le-zero h)
 
 -- ---- a row placed
 
-pub placed-length : (n d p y f g : ℕ) (t s : List ℕ) (c d′ p′ : ℕ) → length t ≡ size → Placed n d p y f g t s c d′ p′ → length s ≡ size
-placed-length n d p y f g t s c d′ p′ h (inl O) = ap length (O .table) ∙ h
-placed-length n d p y f g t s c d′ p′ h (inr N) = N .size
+module _ (n d p v y : ℕ) (C C′ : ℕ → ℕ → Bool) (c : ℕ → Bool) (t s : List ℕ) (d′ p′ v′ : ℕ) where
+  pub placed-length : length t ≡ basisSize → Placed n d p v y C C′ c t s d′ p′ v′ → length s ≡ basisSize
+  placed-length h (inl O) = ap length (O .table) ∙ h
+  placed-length h (inr N) = N .size
 
-pub placed-more : (n d p y f g : ℕ) (t s : List ℕ) (c d′ p′ : ℕ) → Placed n d p y f g t s c d′ p′ → d ≤ d′
-placed-more n d p y f g t s c d′ p′ (inl O) = let e = O .count in omega arith
-placed-more n d p y f g t s c d′ p′ (inr N) = let e = N .count in omega arith
+  pub placed-more : Placed n d p v y C C′ c t s d′ p′ v′ → d ≤ d′
+  placed-more (inl O) = let e = O .count in omega arith
+  placed-more (inr N) = let e = N .count in omega arith
 
--- The rows found before are as they were.
-pub placed-kept : (n d p y f g : ℕ) (t s : List ℕ) (c d′ p′ : ℕ) → Placed n d p y f g t s c d′ p′ → (r : ℕ) → r < d → at s 2 r ≡ at t 2 r
-placed-kept n d p y f g t s c d′ p′ (inl O) r h = ap (λ u. at u 2 r) (O .table)
-placed-kept n d p y f g t s c d′ p′ (inr N) r h = N .row-old r h
+  -- The rows found before are as they were.
+  pub placed-kept : Placed n d p v y C C′ c t s d′ p′ v′ → (r : ℕ) → r < d → at s 1 r ≡ at t 1 r
+  placed-kept (inl O) r h = ap (λ u. at u 1 r) (O .table)
+  placed-kept (inr N) r h = N .row-old r h
+
+  pub placed-cover : Covered d v t → Placed n d p v y C C′ c t s d′ p′ v′ → Covered d′ v′ s
+  placed-cover K (inl O) = rw (O .count, O .used, O .table) K
+  placed-cover K (inr N) = rw (N .count) (N .cover)
 
 -- ---- the search
 
 -- The initial row is placed first. S are the products done: none yet.
-pub search-start : (a : ℕ) (t : List ℕ) (n i f : ℕ) (b b′ : List ℕ) (S : ℕ → ℕ → ℕ → Bool) (c d p : ℕ) → Placed n 0 0 i 0 0 b b′ c d p → SearchIn a t n i f b′ S d 0 0 p
-search-start a t n i f b b′ S c d p (inl O) =
-    rw (O .count, O .pivots, O .table) (search-none a (auto t n i f) (bitOf 0) (row b 2) (row b 0) (row b 1) (at b 3) (at b 4) S bit-none (λ j. O .sum j))
-search-start a t n i f b b′ S c d p (inr N) =
-    rw (N .count) (search-first a (auto t n i f) (bitOf p) (row b′ 2) (row b′ 0) (row b′ 1) (at b′ 3) (at b′ 4) S (N .basis) (λ j. ap (λ v. bitOf v j) (N .row-new)))
+pub search-start : (a : ℕ) (M : ℕ → ℕ → ℕ) (n i f : ℕ) (C C′ : ℕ → ℕ → Bool) (c : ℕ → Bool) (b b′ : List ℕ) (from by : ℕ → ℕ) (S : ℕ → ℕ → ℕ → Bool) (d p v : ℕ) → Placed n 0 0 0 i C C′ c b b′ d p v → SearchIn a M n i f b′ C′ from by S d 0 0 p
+search-start a M n i f C C′ c b b′ from by S d p v (inl O) =
+    rw (O .count, O .pivots, O .table, O .coef) (search-none a (autoBy M n i f) (bitOf 0) (row b 1) (row b 0) C from by S bit-none (λ j. O .sum j))
+search-start a M n i f C C′ c b b′ from by S d p v (inr N) =
+    rw (N .count) (search-first a (autoBy M n i f) (bitOf p) (row b′ 1) (row b′ 0) C′ from by S (N .basis) (λ j. ap (λ v. bitOf v j) (N .row-new)))
 
-pub searching-start : (a : ℕ) (t : List ℕ) (n i f : ℕ) (b b′ s : List ℕ) (c d p : ℕ) → length b ≡ size → length s ≡ size → Placed n 0 0 i 0 0 b b′ c d p → Searching a t n i f b′ s d 0 0 p
-searching-start a t n i f b b′ s c d p hb hs P = record {
-  search = search-start a t n i f b b′ (row s) c d p P;
-  base = placed-length n 0 0 i 0 0 b b′ c d p hb P;
+pub searching-start : (a : ℕ) (t : List ℕ) (n i f : ℕ) (b b′ s : List ℕ) (c d p v : ℕ) → length b ≡ basisSize → length s ≡ size → Placed n 0 0 0 i (row b 2) (row b′ 2) (bitOf c) b b′ d p v → Searching a t n i f b′ s d 0 0 p v
+searching-start a t n i f b b′ s c d p v hb hs P = record {
+  from = λ r. 0;
+  by = λ r. 0;
+  search = search-start a (at t) n i f (row b 2) (row b′ 2) (bitOf c) b b′ (λ r. 0) (λ r. 0) (row s) d p v P;
+  cover = placed-cover n 0 0 0 i (row b 2) (row b′ 2) (bitOf c) b b′ d p v (empty-cover 0 b) P;
+  base = placed-length n 0 0 0 i (row b 2) (row b′ 2) (bitOf c) b b′ d p v hb P;
   out = hs;
 }
 
 -- The coordinates of the initial row: row 0 alone, where there is a row. The rows found later are e in all.
-pub start-row : (n i : ℕ) (b b′ : List ℕ) (c d p e : ℕ) → Placed n 0 0 i 0 0 b b′ c d p → d ≤ e → (d ≡ 0 → e ≡ 0) → ((k : ℕ) → k < e → bitOf c k ≡ eqb k 0) × (c < 2 ^ e)
-start-row n i b b′ c d p e (inl O) h z =
+pub start-row : (n i : ℕ) (C C′ : ℕ → ℕ → Bool) (b b′ : List ℕ) (c d p v e : ℕ) → Placed n 0 0 0 i C C′ (bitOf c) b b′ d p v → d ≤ e → (d ≡ 0 → e ≡ 0) → ((k : ℕ) → k < e → bitOf c k ≡ eqb k 0) × (c < 2 ^ e)
+start-row n i C C′ b b′ c d p v e (inl O) h z =
     let w : e ≡ 0 = z (O .count) in
     (λ k g. absurd (omega arith), rw w (bits-lt c 0 (λ j g. O .short j g)))
-start-row n i b b′ c d p e (inr N) h z =
-    let w : d ≡ 1 = N .count in (
-      λ k g. ap (λ v. bitOf v k) (N .own) ∙ bit-pow 0 k,
-      bits-lt c e (λ j g. ap (λ v. bitOf v j) (N .own) ∙ bit-pow 0 j ∙ gt-differ j 0 (omega arith)),
-    )
+start-row n i C C′ b b′ c d p v e (inr N) h z =
+    let w : d ≡ 1 = N .count in (λ k g. N .own k, bits-lt c e (λ j g. N .own j ∙ gt-differ j 0 (omega arith)))
 
 -- One pair: the product of row k and letter l is placed. S are the products done, whatever holds them.
-module _ (a : ℕ) (t : List ℕ) (n i f : ℕ) (ok : Bounded a t n i f) (b : List ℕ) (S : ℕ → ℕ → ℕ → Bool) (d k l p : ℕ) (G : SearchIn a t n i f b S d k l p) (hk : k < d) (hl : l < a) where
-  pub search-placed : (c d′ p′ : ℕ) (b′ : List ℕ) (S′ : ℕ → ℕ → ℕ → Bool) → ((x j : ℕ) → x < a → j < d → ((j ≡ k) × (x ≡ l) → ⊥) → S′ x j ≡ S x j) → S′ l k ≡ bitOf c
-      → Placed n d p (product n (at b 2 k) (at t l)) k l b b′ c d′ p′ → SearchIn a t n i f b′ S′ d′ k (l + 1) p′
-  search-placed c d′ p′ b′ S′ kept written (inl O) =
-      rw (O .count, O .pivots, O .table, add-one l)
-      (search-old a (auto t n i f) d k l (bitOf p) (row b 2) (row b 0) (row b 1) (at b 3) (at b 4) S G hk hl S′ kept (bitOf c) (λ j. sym (bit-product n (at b 2 k) (at t l) j) ∙ O .sum j) (O .short) written)
-  search-placed c d′ p′ b′ S′ kept written (inr N) =
+module _ (a : ℕ) (M : ℕ → ℕ → ℕ) (n i f : ℕ) (b : List ℕ) (C : ℕ → ℕ → Bool) (from by : ℕ → ℕ) (S : ℕ → ℕ → ℕ → Bool) (d k l p : ℕ) (G : SearchIn a M n i f b C from by S d k l p) (hk : k < d) (hl : l < a)
+    (v d′ p′ v′ : ℕ) (C′ : ℕ → ℕ → Bool) (c : ℕ → Bool) (b′ : List ℕ) (S′ : ℕ → ℕ → ℕ → Bool) (kept : (x j : ℕ) → x < a → j < d → ((j ≡ k) × (x ≡ l) → ⊥) → S′ x j ≡ S x j) (written : S′ l k ≡ c) where
+  -- It is an xor of rows found.
+  pub search-old-row : Old d p v (product n (at b 1 k) (M l)) C C′ c b b′ d′ p′ v′ → SearchIn a M n i f b′ C′ from by S′ d′ k (l + 1) p′
+  search-old-row O =
+      rw (O .count, O .pivots, O .table, O .coef, add-one l)
+      (search-old a (autoBy M n i f) d k l (bitOf p) (row b 1) (row b 0) C from by S G hk hl S′ kept c (λ j. sym (bit-product n (at b 1 k) (M l) j) ∙ O .sum j) (O .short) written)
+
+  -- It is a new row.
+  pub search-new-row : (from′ by′ : ℕ → ℕ) → ((r : ℕ) → r < d → from′ r ≡ from r) → from′ d ≡ k → ((r : ℕ) → r < d → by′ r ≡ by r) → by′ d ≡ l
+      → New n d (product n (at b 1 k) (M l)) C′ c b b′ d′ p′ v′ → SearchIn a M n i f b′ C′ from′ by′ S′ d′ k (l + 1) p′
+  search-new-row from′ by′ from-old from-new by-old by-new N =
       rw (N .count, add-one l)
-      (search-new a (auto t n i f) d k l (bitOf p) (row b 2) (row b 0) (row b 1) (at b 3) (at b 4) S G hk hl S′ kept
-      (bitOf p′) (row b′ 2) (row b′ 0) (row b′ 1) (at b′ 3) (at b′ 4) (N .basis)
-      (λ r h j. ap (λ v. bitOf v j) (N .row-old r h)) (λ j. ap (λ v. bitOf v j) (N .row-new) ∙ bit-product n (at b 2 k) (at t l) j)
-      (N .from-old) (N .from-new) (N .by-old) (N .by-new) (λ r. ap (λ u. u r) written ∙ ap (λ v. bitOf v r) (N .own) ∙ bit-pow d r))
+      (search-new a (autoBy M n i f) d k l (bitOf p) (row b 1) (row b 0) C from by S G hk hl S′ kept
+      (bitOf p′) (row b′ 1) (row b′ 0) C′ from′ by′ (N .basis)
+      (λ r h j. ap (λ v. bitOf v j) (N .row-old r h)) (λ j. ap (λ v. bitOf v j) (N .row-new) ∙ bit-product n (at b 1 k) (M l) j)
+      from-old from-new by-old by-new (λ r. ap (λ u. u r) written ∙ N .own r))
 
 -- The products in a table.
-pub searching-step : (a : ℕ) (t : List ℕ) (n i f : ℕ) → Bounded a t n i f → (b s : List ℕ) (d k l p : ℕ) → Searching a t n i f b s d k l p → k < d → l < a
-    → (c d′ p′ : ℕ) (b′ s′ : List ℕ) → Placed n d p (product n (at b 2 k) (at t l)) k l b b′ c d′ p′ → s′ ≡ stored s l k c → Searching a t n i f b′ s′ d′ k (l + 1) p′
-searching-step a t n i f ok b s d k l p G hk hl c d′ p′ b′ s′ P e = record {
-  search = search-placed a t n i f ok b (row s) d k l p (G .search) hk hl c d′ p′ b′ (row s′) kept written P;
-  base = placed-length n d p (product n (at b 2 k) (at t l)) k l b b′ c d′ p′ (G .base) P;
-  out = ap length e ∙ length-stored s l k c ∙ G .out;
-}
+pub searching-step : (a : ℕ) (t : List ℕ) (n i f : ℕ) → Bounded a t n i f → (b s : List ℕ) (d k l p v : ℕ) → Searching a t n i f b s d k l p v → k < d → l < a
+    → (y : ℕ) → y ≡ product n (at b 1 k) (at t l) → (c d′ p′ v′ : ℕ) (b′ s′ : List ℕ) → Placed n d p v y (row b 2) (row b′ 2) (bitOf c) b b′ d′ p′ v′ → s′ ≡ stored s l k c → Searching a t n i f b′ s′ d′ k (l + 1) p′ v′
+searching-step a t n i f ok b s d k l p v G hk hl y hy c d′ p′ v′ b′ s′ P e = go (rw hy at P)
   where
     hd : d ≤ width
-    hd = omega (arith, count-bound n d p b (G .search .basis), ok .states)
+    hd = omega (arith, count-bound n d p (row b 2) b (G .search .basis), ok .states)
 
     ha : a ≤ blocks
     ha = ok .letters
@@ -110,20 +121,54 @@ searching-step a t n i f ok b s d k l p G hk hl c d′ p′ b′ s′ P e = reco
     written : row s′ l k ≡ bitOf c
     written = ap (λ u. row u l k) e ∙ ap bitOf (stored-same s l k c (G .out) (omega (arith, ha)) (omega (arith, hd)))
 
-pub searching-next : (a : ℕ) (t : List ℕ) (n i f : ℕ) (b s : List ℕ) (d k p : ℕ) → Searching a t n i f b s d k a p → Searching a t n i f b s d (k + 1) 0 p
-searching-next a t n i f b s d k p G = record {
-  search = rw (add-one k) (search-next a (auto t n i f) (bitOf p) (row b 2) (row b 0) (row b 1) (at b 3) (at b 4) (row s) d k (G .search));
+    out′ : length s′ ≡ size
+    out′ = ap length e ∙ length-stored s l k c ∙ G .out
+
+    -- Row d comes from row k by letter l.
+    from′ : ℕ → ℕ
+    from′ r = cond (eqb r d) k (G .from r)
+
+    by′ : ℕ → ℕ
+    by′ r = cond (eqb r d) l (G .by r)
+
+    go : Placed n d p v (product n (at b 1 k) (at t l)) (row b 2) (row b′ 2) (bitOf c) b b′ d′ p′ v′ → Searching a t n i f b′ s′ d′ k (l + 1) p′ v′
+    go (inl O) = record {
+      from = G .from;
+      by = G .by;
+      search = search-old-row a (at t) n i f b (row b 2) (G .from) (G .by) (row s) d k l p (G .search) hk hl v d′ p′ v′ (row b′ 2) (bitOf c) b′ (row s′) kept written O;
+      cover = placed-cover n d p v (product n (at b 1 k) (at t l)) (row b 2) (row b′ 2) (bitOf c) b b′ d′ p′ v′ (G .cover) (inl O);
+      base = placed-length n d p v (product n (at b 1 k) (at t l)) (row b 2) (row b′ 2) (bitOf c) b b′ d′ p′ v′ (G .base) (inl O);
+      out = out′;
+    }
+    go (inr N) = record {
+      from = from′;
+      by = by′;
+      search = search-new-row a (at t) n i f b (row b 2) (G .from) (G .by) (row s) d k l p (G .search) hk hl v d′ p′ v′ (row b′ 2) (bitOf c) b′ (row s′) kept written from′ by′
+          (λ r h. if-other r d k (G .from r) (omega arith)) (if-same d k (G .from d)) (λ r h. if-other r d l (G .by r) (omega arith)) (if-same d l (G .by d)) N;
+      cover = rw (N .count) (N .cover);
+      base = N .size;
+      out = out′;
+    }
+
+pub searching-next : (a : ℕ) (t : List ℕ) (n i f : ℕ) (b s : List ℕ) (d k p v : ℕ) → Searching a t n i f b s d k a p v → Searching a t n i f b s d (k + 1) 0 p v
+searching-next a t n i f b s d k p v G = record {
+  from = G .from;
+  by = G .by;
+  search = rw (add-one k) (search-next a (auto t n i f) (bitOf p) (row b 1) (row b 0) (row b 2) (G .from) (G .by) (row s) d k (G .search));
+  cover = G .cover;
   base = G .base;
   out = G .out;
 }
 
 -- Every pair is done.
-pub searching-end : (a : ℕ) (t : List ℕ) (n i f : ℕ) → Bounded a t n i f → (b s : List ℕ) (d p c r : ℕ) → Searching a t n i f b s d d 0 p
+pub searching-end : (a : ℕ) (t : List ℕ) (n i f : ℕ) → Bounded a t n i f → (b s : List ℕ) (d p v c r : ℕ) → Searching a t n i f b s d d 0 p v
     → ((k : ℕ) → k < d → bitOf c k ≡ eqb k 0) → c < 2 ^ d → Column n b d f r → r < 2 ^ d → Reduces a t n i f b s d c r
-searching-end a t n i f ok b s d p c r G hc lc hr lr = record {
-  tree = search-tree a (auto t n i f) (auto s d c r) d (bitOf p) (row b 2) (row b 0) (row b 1) (at b 3) (at b 4) (G .search) refl hc hr;
+searching-end a t n i f ok b s d p v c r G hc lc hr lr = record {
+  from = G .from;
+  by = G .by;
+  tree = search-tree a (auto t n i f) (auto s d c r) d (bitOf p) (row b 1) (row b 0) (row b 2) (G .from) (G .by) (G .search) refl hc hr;
   bounded = record {
-    states = omega (arith, count-bound n d p b (G .search .basis), ok .states);
+    states = omega (arith, count-bound n d p (row b 2) b (G .search .basis), ok .states);
     letters = ok .letters;
     size = G .out;
     initial = lc;
@@ -154,5 +199,5 @@ counted-step n b m f r u o ho hu C = rw add-one (record {
 pub counted-low : (n : ℕ) (b : List ℕ) (m f r : ℕ) → Counted n b m f r → r < 2 ^ m
 counted-low n b m f r C = bits-lt r m (C .above)
 
-pub found-low : (n d p : ℕ) (b : List ℕ) → BasisIn n d p b → (r : ℕ) → r < d → at b 2 r < 2 ^ n
-found-low n d p b F r h = bits-lt (at b 2 r) n (F .thin r h)
+pub found-low : (n d p : ℕ) (C : ℕ → ℕ → Bool) (b : List ℕ) → BasisIn n d p C b → (r : ℕ) → r < d → at b 1 r < 2 ^ n
+found-low n d p C b F r h = bits-lt (at b 1 r) n (F .thin r h)

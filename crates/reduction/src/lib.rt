@@ -5,66 +5,45 @@ ghost use Prim.Native.Nat.{ℕ, _+_, _^_, _≤_, _<_};
 ghost use lib.ListN.{length};
 ghost use Rattle.rows.specs.Row.{width, mask};
 ghost use Rattle.rows.specs.Table.{size, at};
-ghost use Rattle.rows.specs.Product.{product};
 ghost use Rattle.rows.specs.Machine.{automatonIn, Valid};
 ghost use Rattle.kernels.specs.Products.{Products};
-ghost use Rattle.elimination.specs.Place.{BasisIn, Placed};
+ghost use Rattle.basis.specs.Basis.{basisSize};
 ghost use Rattle.reduction.specs.Tables.{Searching, Column, Reduces, Minimises};
-use elimination::Spot;
+use basis::Basis;
+use elimination::Size;
 use kernels::Line;
 use rows::Machine;
 use rows::Row;
 use rows::Table;
 
-// How many rows are found, and their pivots.
-pub struct Size {
-    pub count: usize,
-    pub pivots: Row,
-}
-
-// Row k of the basis b times letter l, which stands in the line y, placed in b.
-pub fn advance(t: &Table, m: Machine, b: &mut Table, y: &Line, s: Size, k: usize, l: usize) -> Spot
-    requires { ⌜ Valid (now t) m × (length (now b) ≡ size) × BasisIn (m .states) (s .count) (mask (s .pivots)) (now b) × (k < s .count) × (l < m .letters) × Products (m .letters) (m .states) (at (now b) 2 k) (now t) (now y) ⌝ }
-    ensures { λ r. ⌜ Placed (m .states) (s .count) (mask (s .pivots)) (product (m .states) (at (now (b .entry)) 2 k) (at (now (t .entry)) l)) k l (now (b .entry)) (now (b .exit)) (mask (r .row)) (r .count) (mask (r .pivots)) ⌝ }
-{
-    let n = m.states;
-    let d = s.count;
-    let p = s.pivots;
-    let x = kernels::pick(y, l);
-    elimination::place(b, n, d, p, x, k, l)
-}
-
-// The same, with the rows that make the product kept in out.
+// Row k of the basis b times letter l, which stands in the line y, placed in b; the rows that make it are kept in out.
 pub fn step(
     t: &Table,
     m: Machine,
-    b: &mut Table,
+    b: &mut Basis,
     out: &mut Table,
     y: &Line,
     s: Size,
     k: usize,
     l: usize,
 ) -> Size
-    requires { ⌜ Valid (now t) m × Searching (m .letters) (now t) (m .states) (mask (m .initial)) (mask (m .finals)) (now b) (now out) (s .count) k l (mask (s .pivots)) × (k < s .count) × (l < m .letters) × Products (m .letters) (m .states) (at (now b) 2 k) (now t) (now y) ⌝ }
-    ensures { λ r. ⌜ Searching (m .letters) (now (t .entry)) (m .states) (mask (m .initial)) (mask (m .finals)) (now (b .exit)) (now (out .exit)) (r .count) k (l + 1) (mask (r .pivots)) × (s .count ≤ r .count) × (at (now (b .exit)) 2 k ≡ at (now (b .entry)) 2 k) ⌝ }
+    requires { ⌜ Valid (now t) m × Searching (m .letters) (now t) (m .states) (mask (m .initial)) (mask (m .finals)) (now b) (now out) (s .count) k l (mask (s .pivots)) (mask (s .used)) × (k < s .count) × (l < m .letters) × Products (m .letters) (m .states) (at (now b) 1 k) (at (now t)) (now y) ⌝ }
+    ensures { λ r. ⌜ Searching (m .letters) (now (t .entry)) (m .states) (mask (m .initial)) (mask (m .finals)) (now (b .exit)) (now (out .exit)) (r .count) k (l + 1) (mask (r .pivots)) (mask (r .used)) × (s .count ≤ r .count) × (at (now (b .exit)) 1 k ≡ at (now (b .entry)) 1 k) ⌝ }
 {
-    let q = advance(t, m, b, y, s, k, l);
+    let x = kernels::pick(y, l);
+    let q = elimination::place(b, m.states, s, x);
     let row = q.row;
     rows::store(out, l, k, row);
-    let p = q.pivots;
-    Size {
-        count: q.count,
-        pivots: p,
-    }
+    q.size
 }
 
 // Row k by every letter.
-pub fn expand(t: &Table, m: Machine, b: &mut Table, out: &mut Table, s: Size, k: usize) -> Size
-    requires { ⌜ Valid (now t) m × Searching (m .letters) (now t) (m .states) (mask (m .initial)) (mask (m .finals)) (now b) (now out) (s .count) k 0 (mask (s .pivots)) × (k < s .count) ⌝ }
-    ensures { λ r. ⌜ Searching (m .letters) (now (t .entry)) (m .states) (mask (m .initial)) (mask (m .finals)) (now (b .exit)) (now (out .exit)) (r .count) (k + 1) 0 (mask (r .pivots)) × (s .count ≤ r .count) ⌝ }
+pub fn expand(t: &Table, m: Machine, b: &mut Basis, out: &mut Table, s: Size, k: usize) -> Size
+    requires { ⌜ Valid (now t) m × Searching (m .letters) (now t) (m .states) (mask (m .initial)) (mask (m .finals)) (now b) (now out) (s .count) k 0 (mask (s .pivots)) (mask (s .used)) × (k < s .count) ⌝ }
+    ensures { λ r. ⌜ Searching (m .letters) (now (t .entry)) (m .states) (mask (m .initial)) (mask (m .finals)) (now (b .exit)) (now (out .exit)) (r .count) (k + 1) 0 (mask (r .pivots)) (mask (r .used)) × (s .count ≤ r .count) ⌝ }
 {
     let a = m.letters;
-    let x = rows::load(b, 2, k);
+    let x = basis::get(b, 1, k);
     let mut y = [0u64; 8];
     kernels::times_all(t, a, x, &mut y);
     let mut r = s;
@@ -77,9 +56,9 @@ pub fn expand(t: &Table, m: Machine, b: &mut Table, out: &mut Table, s: Size, k:
 }
 
 // Every row by every letter, first in, first out.
-pub fn search(t: &Table, m: Machine, b: &mut Table, out: &mut Table, s: Size) -> Size
-    requires { ⌜ Valid (now t) m × Searching (m .letters) (now t) (m .states) (mask (m .initial)) (mask (m .finals)) (now b) (now out) (s .count) 0 0 (mask (s .pivots)) ⌝ }
-    ensures { λ r. ⌜ Searching (m .letters) (now (t .entry)) (m .states) (mask (m .initial)) (mask (m .finals)) (now (b .exit)) (now (out .exit)) (r .count) (r .count) 0 (mask (r .pivots)) × (s .count ≤ r .count) × (s .count ≡ 0 → r .count ≡ 0) ⌝ }
+pub fn search(t: &Table, m: Machine, b: &mut Basis, out: &mut Table, s: Size) -> Size
+    requires { ⌜ Valid (now t) m × Searching (m .letters) (now t) (m .states) (mask (m .initial)) (mask (m .finals)) (now b) (now out) (s .count) 0 0 (mask (s .pivots)) (mask (s .used)) ⌝ }
+    ensures { λ r. ⌜ Searching (m .letters) (now (t .entry)) (m .states) (mask (m .initial)) (mask (m .finals)) (now (b .exit)) (now (out .exit)) (r .count) (r .count) 0 (mask (r .pivots)) (mask (r .used)) × (s .count ≤ r .count) × (s .count ≡ 0 → r .count ≡ 0) ⌝ }
 {
     let mut r = s;
     let mut k: usize = 0;
@@ -91,14 +70,14 @@ pub fn search(t: &Table, m: Machine, b: &mut Table, out: &mut Table, s: Size) ->
 }
 
 // Which of the first d rows of the basis b share an odd number of bits with f.
-pub fn column(b: &Table, n: usize, d: usize, f: Row) -> Row
-    requires { ⌜ (d ≤ width) × ((k : ℕ) → k < d → at (now b) 2 k < 2 ^ n) ⌝ }
+pub fn column(b: &Basis, n: usize, d: usize, f: Row) -> Row
+    requires { ⌜ (d ≤ width) × ((k : ℕ) → k < d → at (now b) 1 k < 2 ^ n) ⌝ }
     ensures { λ r. ⌜ Column n (now (b .entry)) d (mask f) (mask r) × (mask r < 2 ^ d) ⌝ }
 {
     let mut y = rows::none();
     let mut i: usize = 0;
     while i < d {
-        let x = rows::load(b, 2, i);
+        let x = basis::get(b, 1, i);
         let o = rows::parity(x, f);
         let u = rows::unit(i);
         let v = rows::when(o, u);
@@ -109,26 +88,25 @@ pub fn column(b: &Table, n: usize, d: usize, f: Row) -> Row
 }
 
 // The automaton of t and m on a basis of the rows that words lead to, in shortlex order. The basis is left in b, the rows in out.
-pub fn reduce(t: &Table, m: Machine, b: &mut Table, out: &mut Table) -> Machine
-    requires { ⌜ Valid (now t) m × (length (now b) ≡ size) × (length (now out) ≡ size) ⌝ }
+pub fn reduce(t: &Table, m: Machine, b: &mut Basis, out: &mut Table) -> Machine
+    requires { ⌜ Valid (now t) m × (length (now b) ≡ basisSize) × (length (now out) ≡ size) ⌝ }
     ensures { λ r. ⌜ (r .letters ≡ m .letters) × Reduces (m .letters) (now (t .entry)) (m .states) (mask (m .initial)) (mask (m .finals)) (now (b .exit)) (now (out .exit)) (r .states) (mask (r .initial)) (mask (r .finals)) ⌝ }
 {
     let n = m.states;
     let i = m.initial;
     let f = m.finals;
     let none = rows::none();
-    let q = elimination::place(b, n, 0, none, i, 0, 0);
-    let p = q.pivots;
-    let s = search(
-        t,
-        m,
+    let q = elimination::place(
         b,
-        out,
+        n,
         Size {
-            count: q.count,
-            pivots: p,
+            count: 0,
+            pivots: none,
+            used: none,
         },
+        i,
     );
+    let s = search(t, m, b, out, q.size);
     let d = s.count;
     let c = column(b, n, d, f);
     let row = q.row;
@@ -140,16 +118,9 @@ pub fn reduce(t: &Table, m: Machine, b: &mut Table, out: &mut Table) -> Machine
     }
 }
 
-// The minimal automaton: the reduction of the mirror, and then that of the mirror of the result. Tables u, b and c are for work.
-pub fn minimise(
-    t: &Table,
-    m: Machine,
-    u: &mut Table,
-    b: &mut Table,
-    c: &mut Table,
-    out: &mut Table,
-) -> Machine
-    requires { ⌜ Valid (now t) m × (length (now u) ≡ size) × (length (now b) ≡ size) × (length (now c) ≡ size) × (length (now out) ≡ size) ⌝ }
+// The minimal automaton, its rows in out: the reduction of the mirror, and then that of the mirror of the result. Table u and b are for work.
+pub fn minimise(t: &Table, m: Machine, u: &mut Table, b: &mut Basis, out: &mut Table) -> Machine
+    requires { ⌜ Valid (now t) m × (length (now u) ≡ size) × (length (now b) ≡ basisSize) × (length (now out) ≡ size) ⌝ }
     ensures { λ r. ⌜ (r .letters ≡ m .letters) × Minimises (m .letters) (automatonIn (now (t .entry)) m) (now (out .exit)) (r .states) (mask (r .initial)) (mask (r .finals)) ⌝ }
 {
     let a = m.letters;
@@ -166,10 +137,10 @@ pub fn minimise(
             finals: i,
         },
         b,
-        c,
+        out,
     );
     let d = g.states;
-    transpose::transpose(c, u, a, d);
+    transpose::transpose(out, u, a, d);
     let j = g.initial;
     let h = g.finals;
     reduce(

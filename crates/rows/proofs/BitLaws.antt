@@ -1,7 +1,7 @@
--- Bits of numbers, at every position and so at every width: of xor, and, powers and shifts; a number is its bits.
+-- Bits of numbers, at every position and so at every width: of xor, and, or, powers and shifts; a number is its bits.
 use mathlib.Core.Path.{_≡_, sym, ap, ap₂, _∙_, refl}
-use mathlib.Core.Bool.{Bool, true, false, _&&_, true≢false, cond}
-use Prim.Native.Nat.{ℕ, zero, suc, _+_, _*_, _/_, _%_, _^_, _<_, _≤_, min}
+use mathlib.Core.Bool.{Bool, true, false, _&&_, _||_, true≢false, cond}
+use Prim.Native.Nat.{ℕ, zero, suc, _+_, _*_, _/_, _%_, _^_, _<_, _≤_, min, max}
 use native.Mathlib.Nat.{le-of-suc-le-suc, zero-div, div-eq-of-lt, lt-of-lt-of-le, lt-of-not-le, one-mul, zero-lt-suc, not-suc-le-zero, pow-suc, le-add-right, le-add-left, div-lt-iff-lt-mul, mod-lt}
 use native.Mathlib.Omega.{arith}
 use lib.Arith.{digits-div, digits-mod}
@@ -9,7 +9,7 @@ use native.Mathlib.Decide.{decLt}
 use borrow.Author.Tests.{eq-eqb, ne-eqb, lt-ltb, le-ltb}
 use lib.Dec.{eqb, ltb, eqb·zero-suc, eqb·suc-zero, eqb·suc-suc}
 use lib.Pow.{pow-pos, shr-shr, shl-shr, pow-mono, shl-exact}
-use lib.Bits.{differ, bitXor, bitAnd, xor-step, and-step, shifted-half, shifted-even, and-mask, bitOr, or-add-and, and-le-l, and-le-r}
+use lib.Bits.{differ, bitXor, bitAnd, xor-step, and-step, or-step, shifted-half, shifted-even, and-mask, bitOr, or-add-and, and-le-l, and-le-r}
 use Rattle.automata.specs.Xor.{_⊕_}
 use Rattle.automata.specs.Mask.{bitOf}
 use Rattle.automata.proofs.Mask.{bit-zero, bit-suc, bits-same}
@@ -44,7 +44,16 @@ min-digit (suc zero) (suc zero) p q = refl
 min-digit (suc zero) (suc (suc e)) p q = absurd (omega arith)
 min-digit (suc (suc d)) e p q = absurd (omega arith)
 
--- ---- xor and and
+max-digit : (d e : ℕ) → d < 2 → e < 2 → eqb (max d e) 1 ≡ eqb d 1 || eqb e 1
+max-digit zero zero p q = refl
+max-digit zero (suc zero) p q = refl
+max-digit zero (suc (suc e)) p q = absurd (omega arith)
+max-digit (suc zero) zero p q = refl
+max-digit (suc zero) (suc zero) p q = refl
+max-digit (suc zero) (suc (suc e)) p q = absurd (omega arith)
+max-digit (suc (suc d)) e p q = absurd (omega arith)
+
+-- ---- xor, and and or
 
 pub bit-xor : (j a b : ℕ) → bitOf (bitXor a b) j ≡ bitOf a j ⊕ bitOf b j
 bit-xor zero a b =
@@ -73,6 +82,20 @@ bit-and (suc j) a b =
     ∙ ap (λ x. bitOf x j) (digits-div (bitAnd (a / 2) (b / 2)) (omega (arith, mod-two a)))
     ∙ bit-and j (a / 2) (b / 2)
     ∙ sym (ap₂ _&&_ (bit-suc a j) (bit-suc b j))
+
+pub bit-or : (j a b : ℕ) → bitOf (bitOr a b) j ≡ bitOf a j || bitOf b j
+bit-or zero a b =
+    bit-zero (bitOr a b)
+    ∙ ap (λ x. eqb (x % 2) 1) (or-step a b)
+    ∙ ap (λ x. eqb x 1) (digits-mod (bitOr (a / 2) (b / 2)) (omega (arith, mod-two a, mod-two b)))
+    ∙ max-digit (a % 2) (b % 2) (mod-two a) (mod-two b)
+    ∙ sym (ap₂ _||_ (bit-zero a) (bit-zero b))
+bit-or (suc j) a b =
+    bit-suc (bitOr a b) j
+    ∙ ap (λ x. bitOf (x / 2) j) (or-step a b)
+    ∙ ap (λ x. bitOf x j) (digits-div (bitOr (a / 2) (b / 2)) (omega (arith, mod-two a, mod-two b)))
+    ∙ bit-or j (a / 2) (b / 2)
+    ∙ sym (ap₂ _||_ (bit-suc a j) (bit-suc b j))
 
 -- Numbers are at most their or.
 pub or-ge-l : (a b : ℕ) → a ≤ bitOr a b
@@ -125,7 +148,8 @@ bit-when false x j = bit-none j
 
 -- ---- a number is its bits
 
-lt-pow : (x : ℕ) → x < 2 ^ x
+-- A number has at most as many bits as it is large.
+pub lt-pow : (x : ℕ) → x < 2 ^ x
 lt-pow zero = zero-lt-suc 0
 lt-pow (suc x) = rw pow-suc (omega (arith, lt-pow x))
 

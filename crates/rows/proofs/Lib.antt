@@ -3,3 +3,5 @@ pub mod LowestBit
 pub mod ParityLaws
 pub mod TableLaws
 pub mod ProductLaws
+pub mod BesideLaws
+pub mod DirectSum

@@ -1,6 +1,6 @@
 -- The lowest bit of a number: where it stands, and the number without it.
 use mathlib.Core.Path.{_≡_, refl, sym, ap, ap₂, _∙_}
-use mathlib.Core.Bool.{true, false, _&&_, and-false}
+use mathlib.Core.Bool.{true, false, _&&_, and-false, true≢false}
 use mathlib.Core.Logic.{_⊎_, inl, inr}
 use Prim.Native.Nat.{ℕ, zero, suc, _-_, _/_, _%_, _^_, _<_}
 use native.Mathlib.Nat.{mod-lt, zero-lt-suc, lt-irrefl, not-suc-le-zero}
@@ -81,3 +81,10 @@ lowest-first (suc k) x p h i g = go (digit x) i g (λ q. lowest-first k (x / 2) 
         below : suc i < suc (trailingZeros k (x / 2)) → i < trailingZeros k (x / 2)
         below z = omega arith
     go (inr e) i g rest = absurd (not-suc-le-zero (rw e at g))
+
+-- A bit that is set, with none below it, is the lowest.
+pub lowest-only : (k x q : ℕ) → 0 < x → x < 2 ^ k → bitOf x q ≡ true → ((i : ℕ) → i < q → bitOf x i ≡ false) → trailingZeros k x ≡ q
+lowest-only k x q p h e none =
+    let above : q < trailingZeros k x → ⊥ = λ g. true≢false (sym e ∙ lowest-first k x p h q g) in
+    let below : trailingZeros k x < q → ⊥ = λ g. true≢false (sym (lowest-set k x p h .1) ∙ none (trailingZeros k x) g) in
+    omega arith

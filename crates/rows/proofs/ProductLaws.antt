@@ -12,8 +12,8 @@ use Rattle.automata.specs.Xor.{_⊕_, comb}
 use Rattle.automata.specs.Mask.{bitOf}
 use Rattle.automata.proofs.Xor.{xor-false, xor-comm, xor-assoc, xor-cong, xor-none, xor-pick, xor-coef, xor-matrix}
 use Rattle.rows.specs.Product.{product}
-use Rattle.rows.proofs.BitLaws.{bit-none, bit-xor, bit-pow, bit-when, bit-below, bit-ext}
-use Rattle.rows.proofs.LowestBit.{lowest-set, clear-lowest}
+use Rattle.rows.proofs.BitLaws.{bit-none, bit-xor, bit-pow, bit-when, bit-below, bit-ext, lt-pow}
+use Rattle.rows.proofs.LowestBit.{lowest-set, lowest-only, clear-lowest}
 
 -- ---- laws
 
@@ -83,6 +83,12 @@ left-step M w x z y p f le s n h j =
         xor-cong n (λ i g. ap (λ b. b && bitOf (M i) j) (clear-lowest w z p f i))
         ∙ xor-coef n (bitOf (bitAnd z (z - 1))) (λ i. eqb i q) (λ i. bitOf (M i) j)
         ∙ ap (λ b. rest ⊕ b) (xor-pick n q (bit-below n (lt-of-le-of-lt le h) q (lowest-set w z p f .1)) (λ i. bitOf (M i) j))
+
+-- The same where q is told as the place of the lowest bit, and r is the row read there: z′ and y′ are what z and y become.
+pub left-lowest : (M : ℕ → ℕ) (x z y q : ℕ) {r z′ y′ : ℕ} → 0 < z → z ≤ x → bitOf z q ≡ true → ((i : ℕ) → i < q → bitOf z i ≡ false)
+    → r ≡ M q → y′ ≡ bitXor y r → z′ ≡ bitAnd z (z - 1) → Left M x z y → Left M x z′ y′
+left-lowest M x z y q p le set first er ey ez s =
+    rw (ez, ey, er, ← lowest-only z z q p (lt-pow z) set first) (left-step M z x z y p (lt-pow z) le s)
 
 pub left-end : (M : ℕ → ℕ) (x y : ℕ) → Left M x 0 y → (n : ℕ) → x < 2 ^ n → y ≡ product n x M
 unfolding Left

@@ -2,4 +2,5 @@
 pub mod Row
 pub mod Table
 pub mod Product
+pub mod Beside
 pub mod Machine

@@ -10,10 +10,14 @@ use Rattle.automata.specs.Automaton.{Automaton}
 use Rattle.automata.specs.Mask.{bitOf}
 use Rattle.rows.specs.declared.Machine.{Machine}
 use Rattle.rows.specs.Row.{width, mask}
-use Rattle.rows.specs.Table.{blocks, size, at, row}
+use Rattle.rows.specs.Table.{blocks, size, at}
+
+-- M l k is the row of letter l and state k.
+abbrev pub autoBy : (ℕ → ℕ → ℕ) → ℕ → ℕ → ℕ → Automaton
+autoBy M n i f = record { states = n; initial = bitOf i; final = bitOf f; step = λ l k. bitOf (M l k) }
 
 abbrev pub auto : List ℕ → ℕ → ℕ → ℕ → Automaton
-auto t n i f = record { states = n; initial = bitOf i; final = bitOf f; step = row t }
+auto t n i f = autoBy (at t) n i f
 
 pub record Bounded (a : ℕ) (t : List ℕ) (n i f : ℕ) : Type 0 where
   pub states : n ≤ width

@@ -2,7 +2,7 @@
 // Table: the crates above use these functions and those of `kernels` alone, and their contracts name no width but `width`.
 ghost use mathlib.Core.Path.{_≡_};
 ghost use mathlib.Core.Bool.{Bool, true, false, _&&_, cond};
-ghost use Prim.Native.Nat.{ℕ, _+_, _*_, _/_, _^_, _≤_, _<_};
+ghost use Prim.Native.Nat.{ℕ, _+_, _-_, _*_, _/_, _^_, _≤_, _<_};
 ghost use lib.Bits.{bitXor, bitAnd, bitOr};
 ghost use lib.Dec.{eqb, ltb};
 ghost use Rattle.automata.specs.Xor.{xorBelow};
@@ -129,6 +129,23 @@ pub fn lowest(x: Row) -> usize
     ensures { λ r. ⌜ (r < width) × (bitOf (mask x) r ≡ true) × ((i : ℕ) → i < r → bitOf (mask x) i ≡ false) ⌝ }
 {
     u64::trailing_zeros(x.bits) as usize
+}
+
+// How many bits x needs: none stands at that place or above.
+pub fn span(x: Row) -> usize
+    ensures { λ r. ⌜ (r ≤ width) × (mask x < 2 ^ r) ⌝ }
+{
+    64 - u64::leading_zeros(x.bits) as usize
+}
+
+// x without its lowest bit.
+pub fn clear_lowest(x: Row) -> Row
+    requires { ⌜ 0 < mask x ⌝ }
+    ensures { λ r. ⌜ mask r ≡ bitAnd (mask x) (mask x - 1) ⌝ }
+{
+    Row {
+        bits: x.bits & (x.bits - 1),
+    }
 }
 
 // Whether x and y share an odd number of bits, however many bits n x has.

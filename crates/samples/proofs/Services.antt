@@ -15,7 +15,7 @@ use Rattle.automata.specs.MinimalOf.{minimalOf, dimensionOf}
 use Rattle.automata.proofs.Span.{and-parts}
 use Rattle.automata.proofs.Dimension.{dimension-same}
 use Rattle.automata.proofs.Fields.{same-fields}
-use Rattle.comparison.proofs.SumLaws.{if-high}
+use Rattle.rows.proofs.BesideLaws.{if-high}
 use Rattle.record.specs.Record.{maxStates, statesOf, lettersOf, checkOf, automatonOf, languageOf, encode}
 use Rattle.record.specs.Outcome.{Outcome, refused, checked, fit}
 use Rattle.record.specs.declared.Checked.the-variants.{Good}

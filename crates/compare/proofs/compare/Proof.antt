@@ -6,7 +6,8 @@ use native.Mathlib.Omega.{arith}
 use denote.Ref.{now}
 use lib.ListN.{length, drop}
 use mathlib.Core.List.{_++_}
-use Rattle.comparison.specs.Sum.{wordIn, Traced, Found}
+use Rattle.trail.specs.Trail.{wordIn, Traced}
+use Rattle.comparison.specs.Judged.{Found}
 use Rattle.record.specs.Record.{lettersOf, automatonOf}
 use Rattle.record.specs.Outcome.{bufferOf}
 use Rattle.record.proofs.Refusals.{good-check}
@@ -26,15 +27,15 @@ both : (c : tie.After-enum-told) → pairOf (now (c .before .before .before .bef
 both c = sym (c .before .before .check-pair .ensures) ∙ c .enum-told .given .1
 
 -- The row that was found.
-found : (c : tie.After-v) → Found (lettersOf (now (c .before .before .before .before .before .before .before .before .before .before .args .first))) (automatonOf (now (c .before .before .before .before .before .before .before .before .before .before .args .first))) (automatonOf (now (c .before .before .before .before .before .before .before .before .before .before .args .second))) (c .before .before .judge .last .1 .1 .0) (c .v .given .0 .0) (c .v .given .0 .1 .0)
-found c = rw (c .v .given .1) at (c .before .before .judge .ensures)
+found : (c : tie.After-v) → Found (lettersOf (now (c .before .before .before .before .before .before .before .before .before .before .args .first))) (automatonOf (now (c .before .before .before .before .before .before .before .before .before .before .args .first))) (automatonOf (now (c .before .before .before .before .before .before .before .before .before .before .args .second))) (c .before .before .compare .last .1 .1 .0) (c .v .given .0 .0) (c .v .given .0 .1 .0)
+found c = rw (c .v .given .1) at (c .before .before .compare .ensures)
 
-difference : (c : tie.After-v) → differenceOf (now (c .before .before .before .before .before .before .before .before .before .before .args .first)) (now (c .before .before .before .before .before .before .before .before .before .before .args .second)) ≡ some (wordIn (c .before .before .judge .last .1 .1 .0) (c .v .given .0 .0))
+difference : (c : tie.After-v) → differenceOf (now (c .before .before .before .before .before .before .before .before .before .before .args .first)) (now (c .before .before .before .before .before .before .before .before .before .before .args .second)) ≡ some (wordIn (c .before .before .compare .last .1 .1 .0) (c .v .given .0 .0))
 unfolding differenceOf
 difference c = found c .word
 
 -- Its word can be read off the basis.
-traced : (c : tie.After-size) → Traced (c .size .result) (c .before .before .before .v .given .0 .0) (c .before .before .before .before .before .judge .last .1 .1 .0)
+traced : (c : tie.After-size) → Traced (c .size .result) (c .before .before .before .v .given .0 .0) (c .before .before .before .before .before .compare .last .1 .1 .0)
 traced c = rw (c .size .ensures .0) (found (c .before .before .before) .traced)
 
 check-pair-requires : tie.Need-check-pair-requires
@@ -58,8 +59,8 @@ returns c =
     let buffer = sym (ap (λ x. bufferOf x (now (a .word))) o) in
     (answer, (buffer, claims (now (a .first)) (now (a .second)) (now (a .word)) (now (a .word)) (c .refuse .result) answer buffer))
 
-judge-requires : tie.Need-judge-requires
-judge-requires c κs = let w = both-passed _ _ (both (c .before)) in (w .0, w .1, w .2, refl)
+compare-requires : tie.Need-compare-requires
+compare-requires c κs = let w = both-passed _ _ (both (c .before)) in (w .0, w .1, w .2, refl)
 
 enum-known-v : tie.Need-enum-known-v
 enum-known-v c = search needs
@@ -71,7 +72,7 @@ returns-2 : tie.Need-returns-2
 unfolding differenceOf
 returns-2 c =
     let a = c .before .before .before .before .before .before .before .before .before .before .args in
-    let none-found = rw (c .enum-told3 .given .1) at (c .before .before .judge .ensures) in
+    let none-found = rw (c .enum-told3 .given .1) at (c .before .before .compare .ensures) in
     let answer = sym (same-answer (now (a .first)) (now (a .second)) (now (a .word)) (both (c .before .before .before .before)) none-found) in
     let buffer = sym (ap (λ x. bufferOf x (now (a .word))) (outcome-same (now (a .first)) (now (a .second)) (length (now (a .word))) (both (c .before .before .before .before)) none-found)) in
     (answer, (buffer, claims (now (a .first)) (now (a .second)) (now (a .word)) (now (a .word)) _ answer buffer))
@@ -88,7 +89,7 @@ depth-requires c κs = traced (c .before)
 returns-3 : tie.Need-returns-3
 returns-3 c =
     let a = c .before .before .before .before .before .before .before .before .before .before .before .before .before .before .before .before .args in
-    let w = wordIn (c .before .before .before .before .before .before .before .before .judge .last .1 .1 .0) (c .before .before .before .before .before .before .v .given .0 .0) in
+    let w = wordIn (c .before .before .before .before .before .before .before .before .compare .last .1 .1 .0) (c .before .before .before .before .before .before .v .given .0 .0) in
     let both = both (c .before .before .before .before .before .before .before .before .before .before) in
     let e = c .before .depth .ensures .0 in
     let short : length (now (a .word)) < length w = rw e at (c .if1 .taken) in
@@ -108,7 +109,7 @@ same-length c = search needs
 returns-4 : tie.Need-returns-4
 returns-4 c =
     let a = c .before .before .before .before .before .before .before .before .before .before .before .before .before .before .before .before .before .before .before .before .before .before .args in
-    let w = wordIn (c .before .before .before .before .before .before .before .before .before .before .before .before .before .before .judge .last .1 .1 .0) (c .before .before .before .before .before .before .before .before .before .before .before .before .v .given .0 .0) in
+    let w = wordIn (c .before .before .before .before .before .before .before .before .before .before .before .before .before .before .compare .last .1 .1 .0) (c .before .before .before .before .before .before .before .before .before .before .before .before .v .given .0 .0) in
     let both = both (c .before .before .before .before .before .before .before .before .before .before .before .before .before .before .before .before) in
     let e = c .before .before .before .before .before .before .before .depth .ensures .0 in
     let room : length w ≤ length (now (a .word)) = rw e at (c .before .before .before .before .before .before .if1 .left) in
@@ -127,7 +128,7 @@ compare-spec =
     enum-told-2
     refuse-requires
     returns
-    judge-requires
+    compare-requires
     enum-known-v
     enum-told-3
     returns-2

@@ -1,75 +1,115 @@
 -- `try_pair`: an old row changes nothing; a new one is accepted, and ends the search, or is not.
-use mathlib.Core.Path.{_≡_, sym, ap, subst, _∙_}
-use mathlib.Core.Bool.{_&&_}
+use mathlib.Core.Path.{_≡_, sym, subst, _∙_}
+use mathlib.Core.Bool.{Bool}
 use Prim.Native.Nat.{_^_, _<_}
 use native.Mathlib.Omega.{arith}
-use Rattle.automata.specs.Xor.{xorBelow}
-use Rattle.automata.specs.Mask.{bitOf}
+use denote.Ref.{now}
 use Rattle.rows.specs.Row.{width, mask}
 use Rattle.rows.specs.Table.{at}
 use Rattle.rows.specs.Product.{product}
-use Rattle.reduction.specs.Tables.{accepted}
-use Rattle.reduction.proofs.TableSearch.{placed-kept}
-use Rattle.comparison.proofs.HuntLaws.{new-row, hunting-step, stopped-step}
+use Rattle.rows.proofs.ProductLaws.{product-lt}
+use Rattle.reduction.proofs.TableSearch.{count-bound}
+use Rattle.comparison.specs.Both.{besideOf}
+use Rattle.comparison.proofs.BothLaws.{paired-sizes, paired-rows}
+use Rattle.comparison.proofs.HuntLaws.{shared, row-kept, hunting-old, new-below, hunting-new, stopped-new}
 use borrow.Author.Needs.{needs}
 use Rattle.comparison.proofs.try_pair.Statement.{statement}
 use Rattle.comparison.proofs.try_pair.Tie as tie
 
--- Row k is as it was.
-kept : (c : tie.After-advance) → at (c .advance .last .1 .1 .0) 2 (c .before .before .before .args .k) ≡ at (c .before .before .before .args .b .now) 2 (c .before .before .before .args .k)
-kept c =
+-- What stands in the line is the product, as short as the rows of the two.
+made : (c : tie.After-pick) → mask (c .pick .result) ≡ product (c .before .before .before .before .args .m .states) (at (c .before .before .before .before .args .b .now) 1 (c .before .before .before .before .args .k)) (besideOf (now (c .before .before .before .before .args .first)) (now (c .before .before .before .before .args .second)) (c .before .before .before .before .args .l))
+made c =
+    let s = c .before .before .before .before in
+    c .pick .ensures ∙ s .pre .4 (s .args .l) (s .pre .3)
+
+short : (c : tie.After-pick) → mask (c .pick .result) < 2 ^ c .before .before .before .before .args .m .states
+short c =
+    let s = c .before .before .before .before in
+    let a = s .args in
+    let n = a .m .states in
+    let bs = now (a .first) in
+    let cs = now (a .second) in
+    subst (λ y. y < 2 ^ n) (sym (made c)) (product-lt n n (at (a .b .now) 1 (a .k)) (besideOf bs cs (a .l)) (λ i h. paired-rows bs cs (a .m) (s .pre .0) (a .l) i (s .pre .3) h))
+
+pick-requires : tie.Need-pick-requires
+pick-requires c κs =
     let s = c .before .before .before in
     let a = s .args in
-    let r = c .advance .result in
-    placed-kept (a .m .states) (a .s .count) (mask (a .s .pivots)) (product (a .m .states) (at (a .b .now) 2 (a .k)) (at (a .t .now) (a .l))) (a .k) (a .l) (a .b .now) (c .advance .last .1 .1 .0) (mask (r .row)) (r .count) (mask (r .pivots)) (c .advance .ensures) (a .k) (s .pre .2)
+    omega (arith, paired-sizes (now (a .first)) (now (a .second)) (a .m) (s .pre .0) .2, s .pre .3)
 
--- The new row has room, and as few bits as the others.
-fresh : (c : tie.Else1) → (c .before .before .before .before .before .args .s .count < width) × (at (c .before .before .advance .last .1 .1 .0) 2 (c .before .before .before .before .before .args .s .count) < 2 ^ c .before .before .before .before .before .args .m .states)
-fresh c =
+insert-requires : tie.Need-insert-requires
+insert-requires c κs =
     let s = c .before .before .before .before .before in
     let a = s .args in
-    let q = c .before .before .advance in
-    let r = new-row (a .m .letters) (a .t .now) (a .m .states) (mask (a .m .initial)) (mask (a .m .finals)) (s .pre .0) (a .b .now) (a .s .count) (a .k) (a .l) (mask (a .s .pivots)) (s .pre .1) (s .pre .2) (s .pre .3) (mask (q .result .row)) (q .result .count) (mask (q .result .pivots)) (q .last .1 .1 .0) (q .ensures) (omega arith) in
-    (omega (arith, r .0, s .pre .0 .states), r .1)
-
--- The parity says whether the new row is accepted.
-told : (c : tie.After-parity) → c .parity .result ≡ accepted (c .before .before .before .before .before .before .before .before .args .m .states) (c .before .before .before .before .before .advance .last .1 .1 .0) (mask (c .before .before .before .before .before .before .before .before .args .m .finals)) (c .before .before .before .before .before .before .before .before .args .s .count)
-told c =
-    let s = c .before .before .before .before .before .before .before .before in
-    let a = s .args in
-    let e = c .before .load .ensures in
-    c .parity .ensures (a .m .states) (subst (λ x. x < 2 ^ a .m .states) (sym e) (fresh (c .before .before .before) .1)) ∙ ap (λ x. xorBelow (a .m .states) (λ j. bitOf x j && bitOf (mask (a .m .finals)) j)) e
-
-advance-requires : tie.Need-advance-requires
-advance-requires c κs = let s = c .before .before in (s .pre .0, s .pre .1 .base, s .pre .1 .search .basis, s .pre .2, s .pre .3, s .pre .4)
+    let H = s .pre .1 in
+    (paired-sizes (now (a .first)) (now (a .second)) (a .m) (s .pre .0) .1, H .base, short (c .before), (H .coef, H .search .basis), H .cover)
 
 returns : tie.Need-returns
 returns c =
-    let s = c .before .before .before .before .before in
+    let s = c .before .before .before .before .before .before .before .before in
     let a = s .args in
-    let q = c .before .before .advance in
-    (hunting-step (a .m .letters) (a .t .now) (a .m .states) (mask (a .m .initial)) (mask (a .m .finals)) (s .pre .0) (a .b .now) (a .s .count) (a .k) (a .l) (mask (a .s .pivots)) (s .pre .1) (s .pre .2) (s .pre .3) (mask (q .result .row)) (q .result .count) (mask (q .result .pivots)) (q .last .1 .1 .0) (q .ensures) (λ h. absurd (omega arith)), kept (c .before .before))
+    let m = a .m in
+    let bs = now (a .first) in
+    let cs = now (a .second) in
+    let hn = paired-sizes bs cs m (s .pre .0) .1 in
+    let q = c .before .before .insert in
+    let r = q .result in
+    let y = mask (c .before .before .before .before .pick .result) in (
+      hunting-old (m .letters) (besideOf bs cs) (m .states) (mask (m .initial)) (mask (m .finals)) hn (a .b .now) (a .w .now) (a .s .count) (a .k) (a .l) (mask (a .s .pivots)) (mask (a .s .used)) (s .pre .1) (s .pre .2) (s .pre .3) y (made (c .before .before .before .before)) (q .last .0) (r .count) (mask (r .pivots)) (mask (r .used)) (q .ensures) (omega arith),
+      row-kept (m .letters) (besideOf bs cs) (m .states) (mask (m .initial)) (mask (m .finals)) hn (a .b .now) (a .w .now) (a .s .count) (a .k) (a .l) (mask (a .s .pivots)) (mask (a .s .used)) (s .pre .1) (s .pre .2) (s .pre .3) y (made (c .before .before .before .before)) (q .last .0) (r .count) (mask (r .pivots)) (mask (r .used)) (q .ensures) (a .k) (s .pre .2),
+    )
 
-load-requires : tie.Need-load-requires
-load-requires c κs = (omega arith, fresh (c .before) .0)
+link-requires : tie.Need-link-requires
+link-requires c κs =
+    let s = c .before .before .before .before .before .before .before .before .before in
+    let a = s .args in
+    let m = a .m in
+    let bs = now (a .first) in
+    let cs = now (a .second) in
+    let z = paired-sizes bs cs m (s .pre .0) in
+    let H = s .pre .1 in
+    let q = c .before .before .before .insert in
+    let r = q .result in
+    let d = new-below (m .letters) (besideOf bs cs) (m .states) (mask (m .initial)) (mask (m .finals)) (z .1) (a .b .now) (a .w .now) (a .s .count) (a .k) (a .l) (mask (a .s .pivots)) (mask (a .s .used)) H (s .pre .2) (s .pre .3) (mask (c .before .before .before .before .before .pick .result)) (made (c .before .before .before .before .before)) (q .last .0) (r .count) (mask (r .pivots)) (mask (r .used)) (q .ensures) (omega (arith, c .before .if1 .left)) in
+    (d, omega (arith, s .pre .2), omega (arith, z .2, s .pre .3))
 
 parity-requires : tie.Need-parity-requires
 parity-requires c κs = search needs
 
+-- The parity says whether the new row is accepted.
+told : (c : tie.After-parity) → c .parity .result ≡ shared (c .before .before .before .before .before .before .before .before .before .before .before .args .m .states) (mask (c .before .before .before .before .before .before .before .pick .result)) (mask (c .before .before .before .before .before .before .before .before .before .before .before .args .m .finals))
+told c = c .parity .ensures (c .before .before .before .before .before .before .before .before .before .before .before .args .m .states) (short (c .before .before .before .before .before .before .before))
+
 returns-2 : tie.Need-returns-2
 returns-2 c =
-    let s = c .before .before .before .before .before .before .before .before .before in
+    let s = c .before .before .before .before .before .before .before .before .before .before .before .before in
     let a = s .args in
-    let q = c .before .before .before .before .before .before .advance in
-    (stopped-step (a .m .letters) (a .t .now) (a .m .states) (mask (a .m .initial)) (mask (a .m .finals)) (s .pre .0) (a .b .now) (a .s .count) (a .k) (a .l) (mask (a .s .pivots)) (s .pre .1) (s .pre .2) (s .pre .3) (mask (q .result .row)) (q .result .count) (mask (q .result .pivots)) (q .last .1 .1 .0) (q .ensures) (omega (arith, c .before .before .before .before .if1 .left)) (sym (told (c .before)) ∙ c .if2 .taken), kept (c .before .before .before .before .before .before))
+    let m = a .m in
+    let bs = now (a .first) in
+    let cs = now (a .second) in
+    let hn = paired-sizes bs cs m (s .pre .0) .1 in
+    let q = c .before .before .before .before .before .before .insert in
+    let r = q .result in
+    let y = mask (c .before .before .before .before .before .before .before .before .pick .result) in (
+      rw (c .before .before .link .ensures) (stopped-new (m .letters) (besideOf bs cs) (m .states) (mask (m .initial)) (mask (m .finals)) hn (a .b .now) (a .w .now) (a .s .count) (a .k) (a .l) (mask (a .s .pivots)) (mask (a .s .used)) (s .pre .1) (s .pre .2) (s .pre .3) y (made (c .before .before .before .before .before .before .before .before)) (q .last .0) (r .count) (mask (r .pivots)) (mask (r .used)) (q .ensures) (omega (arith, c .before .before .before .before .if1 .left)) (sym (told (c .before)) ∙ c .if2 .taken)),
+      row-kept (m .letters) (besideOf bs cs) (m .states) (mask (m .initial)) (mask (m .finals)) hn (a .b .now) (a .w .now) (a .s .count) (a .k) (a .l) (mask (a .s .pivots)) (mask (a .s .used)) (s .pre .1) (s .pre .2) (s .pre .3) y (made (c .before .before .before .before .before .before .before .before)) (q .last .0) (r .count) (mask (r .pivots)) (mask (r .used)) (q .ensures) (a .k) (s .pre .2),
+    )
 
 returns-3 : tie.Need-returns-3
 returns-3 c =
-    let s = c .before .before .before .before .before .before .before .before .before in
+    let s = c .before .before .before .before .before .before .before .before .before .before .before .before in
     let a = s .args in
-    let q = c .before .before .before .before .before .before .advance in
-    (hunting-step (a .m .letters) (a .t .now) (a .m .states) (mask (a .m .initial)) (mask (a .m .finals)) (s .pre .0) (a .b .now) (a .s .count) (a .k) (a .l) (mask (a .s .pivots)) (s .pre .1) (s .pre .2) (s .pre .3) (mask (q .result .row)) (q .result .count) (mask (q .result .pivots)) (q .last .1 .1 .0) (q .ensures) (λ h. sym (told (c .before)) ∙ c .if2 .left), kept (c .before .before .before .before .before .before))
+    let m = a .m in
+    let bs = now (a .first) in
+    let cs = now (a .second) in
+    let hn = paired-sizes bs cs m (s .pre .0) .1 in
+    let q = c .before .before .before .before .before .before .insert in
+    let r = q .result in
+    let y = mask (c .before .before .before .before .before .before .before .before .pick .result) in (
+      rw (c .before .before .link .ensures) (hunting-new (m .letters) (besideOf bs cs) (m .states) (mask (m .initial)) (mask (m .finals)) hn (a .b .now) (a .w .now) (a .s .count) (a .k) (a .l) (mask (a .s .pivots)) (mask (a .s .used)) (s .pre .1) (s .pre .2) (s .pre .3) y (made (c .before .before .before .before .before .before .before .before)) (q .last .0) (r .count) (mask (r .pivots)) (mask (r .used)) (q .ensures) (omega (arith, c .before .before .before .before .if1 .left)) (sym (told (c .before)) ∙ c .if2 .left)),
+      row-kept (m .letters) (besideOf bs cs) (m .states) (mask (m .initial)) (mask (m .finals)) hn (a .b .now) (a .w .now) (a .s .count) (a .k) (a .l) (mask (a .s .pivots)) (mask (a .s .used)) (s .pre .1) (s .pre .2) (s .pre .3) y (made (c .before .before .before .before .before .before .before .before)) (q .last .0) (r .count) (mask (r .pivots)) (mask (r .used)) (q .ensures) (a .k) (s .pre .2),
+    )
 
 pub try-pair-spec : {M : Type 1} → statement M
 try-pair-spec =
-    tie.close (tie.spec advance-requires returns load-requires parity-requires returns-2 returns-3)
+    tie.close (tie.spec pick-requires insert-requires returns link-requires parity-requires returns-2 returns-3)

@@ -3,29 +3,34 @@ use mathlib.Core.Path.{_≡_}
 use Prim.Native.Nat.{_-_, _≤_}
 use native.Mathlib.Omega.{arith}
 use borrow.Author.Needs.{needs}
+use denote.Ref.{now}
 use Rattle.rows.specs.Row.{width, mask}
 use Rattle.reduction.proofs.TableSearch.{count-bound}
+use Rattle.comparison.specs.Both.{besideOf}
 use Rattle.comparison.specs.Hunt.{Hunting}
+use Rattle.comparison.proofs.BothLaws.{paired-sizes}
 use Rattle.comparison.proofs.try_rows.Statement.{statement}
 use Rattle.comparison.proofs.try_rows.Tie as tie
 
 abbrev Inv-loop : tie.InvT-loop
-Inv-loop t m b₀ r₀ k₀ b r k = (k ≤ r .count) × Hunting (m .letters) t (m .states) (mask (m .initial)) (mask (m .finals)) b (r .count) k 0 (mask (r .pivots))
+Inv-loop first second m b₀ w₀ r₀ k₀ b w r k = (k ≤ r .count) × Hunting (m .letters) (besideOf first second) (m .states) (mask (m .initial)) (mask (m .finals)) b w (r .count) k 0 (mask (r .pivots)) (mask (r .used))
 
 abbrev μ-loop : tie.MeasureT-loop
-μ-loop t m b₀ r₀ k₀ b r k = width - k
+μ-loop first second m b₀ w₀ r₀ k₀ b w r k = width - k
 
 below : (c : tie.At-loop Inv-loop μ-loop) → c .loop .r .count ≤ width
 below c =
-    let s = c .before in
+    let s = c .before .before .before in
+    let a = s .args in
     let v = c .loop in
-    omega (arith, count-bound (s .args .m .states) (v .r .count) (mask (v .r .pivots)) (v .b) (v .inv .1 .search .basis), s .pre .0 .states)
+    let H = v .inv .1 in
+    omega (arith, count-bound (a .m .states) (v .r .count) (mask (v .r .pivots)) (H .coef) (v .b) (H .search .basis), paired-sizes (now (a .first)) (now (a .second)) (a .m) (s .pre .0) .1)
 
 loop-holds : tie.Need-loop-holds Inv-loop μ-loop
-loop-holds c = (omega arith, c .pre .1)
+loop-holds c = (omega arith, c .before .before .pre .1)
 
 try-row-requires : tie.Need-try-row-requires Inv-loop μ-loop
-try-row-requires c κs = (c .before .before .before .before .pre .0, c .before .before .before .loop .inv .1, omega arith)
+try-row-requires c κs = (c .before .before .before .before .before .before .before .pre .0, c .before .before .before .before .loop .inv .1, omega arith)
 
 enum-known-h : tie.Need-enum-known-h Inv-loop μ-loop
 enum-known-h c = search needs
@@ -37,10 +42,10 @@ returns : tie.Need-returns Inv-loop μ-loop
 returns c = rw (c .enum-told .given .1) (rw (c .enum-told .given .1) at (c .before .before .try-row .ensures))
 
 add-k : tie.Need-add-k Inv-loop μ-loop
-add-k c = omega (arith, below (c .before .before .before .before .before .before .before))
+add-k c = omega (arith, below (c .before .before .before .before .before .before .before .before))
 
 loop-less : tie.Need-loop-less Inv-loop μ-loop
-loop-less c = omega (arith, below (c .before .before .before .before .before .before .before))
+loop-less c = omega (arith, below (c .before .before .before .before .before .before .before .before))
 
 loop-again : tie.Need-loop-again Inv-loop μ-loop
 loop-again c =

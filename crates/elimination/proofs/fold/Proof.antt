@@ -8,16 +8,16 @@ use Rattle.elimination.proofs.fold.Statement.{statement}
 use Rattle.elimination.proofs.fold.Tie as tie
 
 abbrev Inv-loop : tie.InvT-loop
-Inv-loop t₀ n q x c j₀ t j = (j ≤ n) × Folding j q (mask x) (mask c) t₀ t
+Inv-loop b₀ l n q x j₀ b j = (j ≤ n) × Folding j l q (mask x) b₀ b
 
 abbrev μ-loop : tie.MeasureT-loop
-μ-loop t₀ n q x c j₀ t j = n - j
+μ-loop b₀ l n q x j₀ b j = n - j
 
 loop-holds : tie.Need-loop-holds Inv-loop μ-loop
 loop-holds c = (omega arith, fold-start _ _ _ _)
 
-load-requires : tie.Need-load-requires Inv-loop μ-loop
-load-requires c κs = omega arith
+get-requires : tie.Need-get-requires Inv-loop μ-loop
+get-requires c κs = omega arith
 
 has-requires : tie.Need-has-requires Inv-loop μ-loop
 has-requires c κs = omega arith
@@ -25,23 +25,14 @@ has-requires c κs = omega arith
 when-requires : tie.Need-when-requires Inv-loop μ-loop
 when-requires c κs = tt
 
+get-requires-2 : tie.Need-get-requires-2 Inv-loop μ-loop
+get-requires-2 c κs = omega arith
+
 xor-requires : tie.Need-xor-requires Inv-loop μ-loop
 xor-requires c κs = tt
 
-store-requires : tie.Need-store-requires Inv-loop μ-loop
-store-requires c κs = omega arith
-
-load-requires-2 : tie.Need-load-requires-2 Inv-loop μ-loop
-load-requires-2 c κs = omega arith
-
-when-requires-2 : tie.Need-when-requires-2 Inv-loop μ-loop
-when-requires-2 c κs = tt
-
-xor-requires-2 : tie.Need-xor-requires-2 Inv-loop μ-loop
-xor-requires-2 c κs = tt
-
-store-requires-2 : tie.Need-store-requires-2 Inv-loop μ-loop
-store-requires-2 c κs = omega arith
+put-requires : tie.Need-put-requires Inv-loop μ-loop
+put-requires c κs = omega arith
 
 add-j : tie.Need-add-j Inv-loop μ-loop
 add-j c = omega arith
@@ -51,13 +42,13 @@ loop-less c = omega arith
 
 loop-again : tie.Need-loop-again Inv-loop μ-loop
 loop-again c =
-    let v = c .before .before .before .before .before .before .before .before .before .before .before .before .before .before .loop in
-    let s = c .before .before .before .before .before .before .before .before .before .before .before .before .before .before .before in
+    let v = c .before .before .before .before .before .before .before .before .before .before .loop in
+    let s = c .before .before .before .before .before .before .before .before .before .before .before in
     let a = s .args in (
-      omega (arith, c .before .before .before .before .before .before .before .before .before .before .before .before .before .loop-test .taken),
-      fold-turn (v .j) (a .q) (mask (a .x)) (mask (a .c)) (a .t .now) (v .t) (c .before .before .before .before .before .before .store .last .0) (c .store2 .last .0) (mask (c .before .before .before .before .before .before .before .before .before .before .before .load .result)) (mask (c .before .before .before .before .before .before .before .before .before .when .result)) (mask (c .before .before .before .before .before .before .before .xor .result))
-          (mask (c .before .before .before .before .load2 .result)) (mask (c .before .before .before .when2 .result)) (mask (c .before .xor2 .result)) (c .before .before .before .before .before .before .before .before .before .before .has .result) (omega (arith, c .before .before .before .before .before .before .before .before .before .before .before .before .before .loop-test .taken, s .pre .0)) (s .pre .2)
-          (c .before .before .before .before .before .before .before .before .before .before .before .load .ensures) (c .before .before .before .before .before .before .before .before .before .before .has .ensures) (c .before .before .before .before .before .before .before .before .before .when .ensures) (c .before .before .before .before .before .before .before .xor .ensures) (c .before .before .before .before .before .before .store .ensures) (c .before .before .before .before .load2 .ensures) (c .before .before .before .when2 .ensures) (c .before .xor2 .ensures) (c .store2 .ensures) (v .inv .1),
+      omega (arith, c .before .before .before .before .before .before .before .before .before .loop-test .taken),
+      fold-turn (v .j) (a .l) (a .q) (mask (a .x)) (a .b .now) (v .b) (c .put .last .0) (mask (c .before .before .before .before .before .before .before .get .result)) (mask (c .before .before .before .before .before .when .result)) (mask (c .before .before .before .get2 .result)) (mask (c .before .xor .result)) (c .before .before .before .before .before .before .has .result)
+          (s .pre .0) (omega (arith, c .before .before .before .before .before .before .before .before .before .loop-test .taken, s .pre .1)) (s .pre .3)
+          (c .before .before .before .before .before .before .before .get .ensures) (c .before .before .before .before .before .before .has .ensures) (c .before .before .before .before .before .when .ensures) (c .before .before .before .get2 .ensures) (c .before .xor .ensures) (c .put .ensures) (v .inv .1),
     )
 
 returns : tie.Need-returns Inv-loop μ-loop
@@ -73,15 +64,12 @@ fold-spec =
     Inv-loop
     μ-loop
     loop-holds
-    load-requires
+    get-requires
     has-requires
     when-requires
+    get-requires-2
     xor-requires
-    store-requires
-    load-requires-2
-    when-requires-2
-    xor-requires-2
-    store-requires-2
+    put-requires
     add-j
     loop-less
     loop-again

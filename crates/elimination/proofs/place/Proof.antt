@@ -1,29 +1,18 @@
--- `place`: the products give what is left of y; where nothing is left y is an xor of rows found, else the five stores make the new basis.
-use mathlib.Core.Path.{sym, ap, _∙_}
-use mathlib.Core.Logic.{inl}
+-- `place`: where nothing is left y is an xor of the rows that its coefficients name; else the coefficients are changed, then the rows.
+use mathlib.Core.Path.{refl, sym, ap, _∙_}
+use mathlib.Core.Logic.{inl, inr}
 use Prim.Native.Nat.{_<_}
 use native.Mathlib.Omega.{arith}
 use borrow.Author.Tests.{eqb-true, eqb-false}
+use lib.Bits.{bitXor}
+use Rattle.automata.specs.Mask.{bitOf}
 use Rattle.rows.specs.Row.{width, mask}
-use Rattle.rows.specs.Table.{stored}
-use Rattle.elimination.proofs.PlaceLaws.{place-old, has-room, place-turn}
+use Rattle.rows.specs.Table.{row}
+use Rattle.rows.proofs.BitLaws.{bit-pow}
+use Rattle.elimination.proofs.PlaceLaws.{low, on-pivots, place-old, place-kept, has-room, unused, unused-after}
 use borrow.Author.Needs.{needs}
 use Rattle.elimination.proofs.place.Statement.{statement}
 use Rattle.elimination.proofs.place.Tie as tie
-
-left-some : (c : tie.Else1) → 0 < mask (c .before .before .xor .result)
-left-some c =
-    let some = eqb-false (mask (c .before .before .xor .result)) 0 (sym (c .before .is-none .ensures) ∙ c .if1 .left) in
-    omega (arith, some)
-
--- There is room for one more row.
-room-at : (c : tie.After-lowest) → c .before .before .before .before .before .before .before .before .before .args .d < width
-room-at c =
-    let x = c .before .before .before in
-    let s = c .before .before .before .before .before .before .before .before .before in
-    let a = s .args in
-    let r = has-room (a .n) (a .d) (mask (a .p)) (mask (a .y)) (a .t .now) (s .pre .3) (s .pre .0) (s .pre .1) (s .pre .2) (mask (x .before .before .before .before .before .and .result)) (x .before .before .before .before .before .and .ensures) (mask (x .before .before .before .times-two .result .first)) (λ n h. x .before .before .before .times-two .ensures n h .0) (mask (x .before .before .before .times-two .result .second)) (λ n h. x .before .before .before .times-two .ensures n h .1) (mask (x .xor .result)) (x .xor .ensures) (c .lowest .result) (c .lowest .ensures .1) in
-    omega (arith, s .pre .0)
 
 and-requires : tie.Need-and-requires
 and-requires c κs = search needs
@@ -39,13 +28,34 @@ is-none-requires c κs = search needs
 
 returns : tie.Need-returns
 returns c =
-    let x = c .before .before in
-    let s = c .before .before .before .before .before .before .before .before in
+    let s = c .before .before .before .before .before .before .before .before .before .before in
     let a = s .args in
-    inl (place-old (a .n) (a .d) (mask (a .p)) (mask (a .y)) (a .t .now) (s .pre .3) (s .pre .0) (s .pre .1) (s .pre .2) (mask (x .before .before .before .before .before .and .result)) (x .before .before .before .before .before .and .ensures) (mask (x .before .before .before .times-two .result .first)) (λ n h. x .before .before .before .times-two .ensures n h .0) (mask (x .before .before .before .times-two .result .second)) (λ n h. x .before .before .before .times-two .ensures n h .1) (mask (x .xor .result)) (x .xor .ensures) (eqb-true (mask (x .xor .result)) 0 (sym (c .before .is-none .ensures) ∙ c .if1 .taken)))
+    let n = a .n in
+    let d = a .s .count in
+    let p = mask (a .s .pivots) in
+    let v = mask (a .s .used) in
+    let y = mask (a .y) in
+    let t = a .b .now in
+    let z = mask (c .before .before .before .before .before .before .before .and .result) in
+    let w = c .before .before .before .before .before .times-two in
+    inl (place-old n d p v y t (row t 2) (s .pre .3) (s .pre .2) z (c .before .before .before .before .before .before .before .and .ensures) (mask (w .result .first)) (λ n h. w .ensures n h .0) (mask (c .before .before .xor .result)) (c .before .before .xor .ensures) (bitOf (mask (w .result .second)))
+    (on-pivots n d p v y t (row t 2) (s .pre .3) (s .pre .2) z (c .before .before .before .before .before .before .before .and .ensures) (mask (w .result .first)) (λ n h. w .ensures n h .0) (mask (c .before .before .xor .result)) (c .before .before .xor .ensures) 2 (mask (w .result .second)) (w .ensures n (low n d p v y t (row t 2) (s .pre .3) (s .pre .2) z (c .before .before .before .before .before .before .before .and .ensures) (mask (w .result .first)) (λ n h. w .ensures n h .0) (mask (c .before .before .xor .result)) (c .before .before .xor .ensures)) .1))
+    (eqb-true (mask (c .before .before .xor .result)) 0 (sym (c .before .is-none .ensures) ∙ c .if1 .taken)))
 
 lowest-requires : tie.Need-lowest-requires
-lowest-requires c κs = left-some c
+lowest-requires c κs =
+    let some = eqb-false (mask (c .before .before .xor .result)) 0 (sym (c .before .is-none .ensures) ∙ c .if1 .left) in
+    omega (arith, some)
+
+-- There is room for one more row.
+room-at : (c : tie.After-lowest) → c .before .before .before .before .before .before .before .before .before .before .before .args .s .count < width
+room-at c =
+    let s = c .before .before .before .before .before .before .before .before .before .before .before in
+    let a = s .args in
+    let t = a .b .now in
+    let w = c .before .before .before .before .before .before .times-two in
+    let k = has-room (a .n) (a .s .count) (mask (a .s .pivots)) (mask (a .s .used)) (mask (a .y)) t (row t 2) (s .pre .3) (s .pre .2) (mask (c .before .before .before .before .before .before .before .before .and .result)) (c .before .before .before .before .before .before .before .before .and .ensures) (mask (w .result .first)) (λ n h. w .ensures n h .0) (mask (c .before .before .before .xor .result)) (c .before .before .before .xor .ensures) (c .lowest .result) (c .lowest .ensures .1) in
+    omega (arith, s .pre .0)
 
 unit-requires : tie.Need-unit-requires
 unit-requires c κs = room-at c
@@ -53,52 +63,40 @@ unit-requires c κs = room-at c
 xor-requires-2 : tie.Need-xor-requires-2
 xor-requires-2 c κs = search needs
 
-fold-requires : tie.Need-fold-requires
-fold-requires c κs = search needs
+spread-requires : tie.Need-spread-requires
+spread-requires c κs =
+    let s = c .before .before .before .before .before .before .before .before .before .before .before .before .before .before in
+    let a = s .args in
+    (omega arith, c .before .before .before .lowest .ensures .0, s .pre .1, unused (a .n) (a .s .count) (mask (a .s .pivots)) (mask (a .s .used)) (c .before .before .before .lowest .result) (a .b .now) (row (a .b .now) 2) (s .pre .3) (s .pre .4))
 
-store-requires : tie.Need-store-requires
-store-requires c κs = search needs
+put-requires : tie.Need-put-requires
+put-requires c κs = (omega arith, c .before .before .before .before .before .lowest .ensures .0)
 
-store-requires-2 : tie.Need-store-requires-2
-store-requires-2 c κs = search needs
-
-store-requires-3 : tie.Need-store-requires-3
-store-requires-3 c κs = (omega arith, room-at (c .before .before .before .before .before .before .before .before .before))
-
-from-u64-requires : tie.Need-from-u64-requires
-from-u64-requires c κs = search needs
-
-store-requires-4 : tie.Need-store-requires-4
-store-requires-4 c κs = (omega arith, room-at (c .before .before .before .before .before .before .before .before .before .before .before .before))
-
-from-u64-requires-2 : tie.Need-from-u64-requires-2
-from-u64-requires-2 c κs = search needs
-
-store-requires-5 : tie.Need-store-requires-5
-store-requires-5 c κs = (omega arith, room-at (c .before .before .before .before .before .before .before .before .before .before .before .before .before .before .before))
-
-unit-requires-2 : tie.Need-unit-requires-2
-unit-requires-2 c κs = search needs
-
-xor-requires-3 : tie.Need-xor-requires-3
-xor-requires-3 c κs = search needs
-
-add-t29 : tie.Need-add-t29
-add-t29 c = omega (arith, room-at (c .before .before .before .before .before .before .before .before .before .before .before .before .before .before .before .before .before .before))
+add-requires : tie.Need-add-requires
+add-requires c κs =
+    let s = c .before .before .before .before .before .before .before .before .before .before .before .before .before .before .before .before .before .before in
+    let a = s .args in
+    let l = c .before .before .before .before .before .before .before .lowest in
+    let U = unused (a .n) (a .s .count) (mask (a .s .pivots)) (mask (a .s .used)) (l .result) (a .b .now) (row (a .b .now) 2) (s .pre .3) (s .pre .4) in
+    let r = unused-after (a .n) (mask (a .s .pivots)) (mask (a .s .used)) (l .result) (mask (c .before .before .before .before .before .xor2 .result)) (a .b .now) (c .before .before .before .spread .last .0) (c .before .put .last .0) (s .pre .0) (l .ensures .0) (s .pre .1) (c .before .before .before .spread .ensures) (c .before .put .ensures) U in
+    (s .pre .0, l .ensures .0, room-at (c .before .before .before .before .before .before .before), r .0, r .1)
 
 returns-2 : tie.Need-returns-2
 returns-2 c =
-    let l = c .before .before .before .before .before .before .before .before .before .before .before .before .before .before .before .before .before .before in
-    let x = c .before .before .before .before .before .before .before .before .before .before .before .before .before .before .before .before .before .before .before .before .before in
-    let s = c .before .before .before .before .before .before .before .before .before .before .before .before .before .before .before .before .before .before .before .before .before .before .before .before .before .before .before in
+    let s = c .before .before .before .before .before .before .before .before .before .before .before .before .before .before .before .before .before .before .before in
     let a = s .args in
-    place-turn (a .n) (a .d) (mask (a .p)) (mask (a .y)) (a .t .now) (s .pre .3) (s .pre .0) (s .pre .1) (s .pre .2) (mask (x .before .before .before .before .before .and .result)) (x .before .before .before .before .before .and .ensures) (mask (x .before .before .before .times-two .result .first)) (λ n h. x .before .before .before .times-two .ensures n h .0) (mask (x .before .before .before .times-two .result .second)) (λ n h. x .before .before .before .times-two .ensures n h .1) (mask (x .xor .result)) (x .xor .ensures)
-    (l .lowest .result) (l .lowest .ensures .1) (a .f) (a .g) (mask (c .before .before .before .before .before .before .before .before .before .before .before .before .before .before .before .before .before .unit .result)) (mask (c .before .before .before .before .before .before .before .before .before .before .before .before .before .before .before .before .xor2 .result)) (mask (c .before .unit2 .result)) (mask (c .xor3 .result))
-    (c .before .before .before .before .before .before .before .before .before .before .before .before .before .before .fold .last .0) (c .before .before .before .before .before .before .before .before .before .before .before .before .store .last .0) (c .before .before .before .before .before .before .before .before .before .before .store2 .last .0) (c .before .before .before .before .before .before .before .before .store3 .last .0) (c .before .before .before .before .before .store4 .last .0) (c .before .before .store5 .last .0)
-    (c .before .before .before .before .before .before .before .before .before .before .before .before .before .before .before .before .before .unit .ensures) (c .before .before .before .before .before .before .before .before .before .before .before .before .before .before .before .before .xor2 .ensures) (c .before .before .before .before .before .before .before .before .before .before .before .before .before .before .fold .ensures) (c .before .before .before .before .before .before .before .before .before .before .before .before .store .ensures) (c .before .before .before .before .before .before .before .before .before .before .store2 .ensures) (c .before .before .before .before .before .before .before .before .store3 .ensures)
-    (c .before .before .before .before .before .store4 .ensures ∙ ap (stored (c .before .before .before .before .before .before .before .before .store3 .last .0) 3 (a .d)) (c .before .before .before .before .before .before .from-u64 .ensures))
-    (c .before .before .store5 .ensures ∙ ap (stored (c .before .before .before .before .before .store4 .last .0) 4 (a .d)) (c .before .before .before .from-u642 .ensures))
-    (c .before .unit2 .ensures) (c .xor3 .ensures)
+    let n = a .n in
+    let d = a .s .count in
+    let p = mask (a .s .pivots) in
+    let v = mask (a .s .used) in
+    let y = mask (a .y) in
+    let t = a .b .now in
+    let q = c .before .before .before .before .before .before .before .before .lowest .result in
+    let z = mask (c .before .before .before .before .before .before .before .before .before .before .before .before .before .before .before .before .and .result) in
+    let w = c .before .before .before .before .before .before .before .before .before .before .before .before .before .before .times-two in
+    let A = c .add .ensures in
+    inr (rw (A .1, A .2, A .3) (place-kept n d p v y t (row t 2) (s .pre .3) (s .pre .2) z (c .before .before .before .before .before .before .before .before .before .before .before .before .before .before .before .before .and .ensures) (mask (w .result .first)) (λ n h. w .ensures n h .0) (mask (c .before .before .before .before .before .before .before .before .before .before .before .xor .result)) (c .before .before .before .before .before .before .before .before .before .before .before .xor .ensures) q (c .before .before .before .before .before .before .before .before .lowest .ensures .1)
+    refl (s .pre .4) (s .pre .0) (s .pre .1) (mask (w .result .second)) (λ n h. w .ensures n h .1) (mask (c .before .before .before .before .before .before .before .unit .result)) (c .before .before .before .before .before .before .before .unit .ensures) (mask (c .before .before .before .before .before .before .xor2 .result)) (c .before .before .before .before .before .before .xor2 .ensures) (c .before .before .before .before .spread .last .0) (c .before .before .put .last .0) (c .add .last .0) (c .before .before .before .before .spread .ensures) (c .before .before .put .ensures) (A .0)))
 
 pub place-spec : {M : Type 1} → statement M
 place-spec =
@@ -112,15 +110,7 @@ place-spec =
     lowest-requires
     unit-requires
     xor-requires-2
-    fold-requires
-    store-requires
-    store-requires-2
-    store-requires-3
-    from-u64-requires
-    store-requires-4
-    from-u64-requires-2
-    store-requires-5
-    unit-requires-2
-    xor-requires-3
-    add-t29
+    spread-requires
+    put-requires
+    add-requires
     returns-2)

@@ -2,8 +2,8 @@
 use mathlib.Core.Path.{_≡_}
 use Prim.Native.Nat.{_-_, _*_, _≤_}
 use native.Mathlib.Omega.{arith}
-use Rattle.comparison.specs.Sum.{Filled}
-use Rattle.comparison.proofs.SumLaws.{filled-none}
+use Rattle.direct_sum.specs.Filled.{Filled}
+use Rattle.direct_sum.proofs.Filling.{filled-none}
 use Rattle.intersection.specs.Kron.{crossed}
 use Rattle.intersection.proofs.cross.Statement.{statement}
 use Rattle.intersection.proofs.cross.Tie as tie

@@ -4,7 +4,7 @@ use Prim.Native.Nat.{_-_, _*_, _%_, _^_, _≤_, _<_}
 use native.Mathlib.Nat.{mod-le, lt-of-le-of-lt, lt-of-lt-of-le}
 use native.Mathlib.Omega.{arith}
 use Rattle.rows.specs.Row.{mask}
-use Rattle.comparison.proofs.SumLaws.{Filling, filling-start, filling-step, filling-end}
+use Rattle.direct_sum.proofs.Filling.{Filling, filling-start, filling-step, filling-end}
 use Rattle.intersection.specs.Kron.{kron, crossed}
 use Rattle.intersection.proofs.KronLaws.{positive, pair-first, pair-second}
 use Rattle.intersection.proofs.cross_block.Statement.{statement}

@@ -3,7 +3,7 @@ use mathlib.Core.Path.{refl, ap, subst, _∙_}
 use lib.Bits.{bitXor}
 use Rattle.rows.specs.Row.{mask}
 use Rattle.rows.specs.Machine.{Bounded}
-use Rattle.comparison.proofs.SumLaws.{moved-fits}
+use Rattle.rows.proofs.BesideLaws.{moved-fits}
 use Rattle.operations.proofs.BuiltLaws.{sum-built}
 use borrow.Author.Needs.{needs}
 use Rattle.operations.proofs.add.Statement.{statement}

@@ -3,8 +3,8 @@ use mathlib.Core.Path.{_≡_}
 use Prim.Native.Nat.{_-_, _≤_}
 use native.Mathlib.Omega.{arith}
 use Rattle.rows.specs.Row.{mask}
-use Rattle.comparison.specs.Sum.{Filled}
-use Rattle.comparison.proofs.SumLaws.{filled-none}
+use Rattle.direct_sum.specs.Filled.{Filled}
+use Rattle.direct_sum.proofs.Filling.{filled-none}
 use Rattle.operations.proofs.BuiltLaws.{all-step}
 use Rattle.operations.proofs.all_words.Statement.{statement}
 use Rattle.operations.proofs.all_words.Tie as tie

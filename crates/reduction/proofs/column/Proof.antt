@@ -23,8 +23,8 @@ none-requires c κs = tt
 loop-holds : tie.Need-loop-holds Inv-loop μ-loop
 loop-holds c = (omega arith, rw (c .none .ensures) (counted-start _ _ _))
 
-load-requires : tie.Need-load-requires Inv-loop μ-loop
-load-requires c κs = omega arith
+get-requires : tie.Need-get-requires Inv-loop μ-loop
+get-requires c κs = omega arith
 
 parity-requires : tie.Need-parity-requires Inv-loop μ-loop
 parity-requires c κs = tt
@@ -49,7 +49,7 @@ loop-again c =
     let v = c .before .before .before .before .before .before .loop in
     let s = c .before .before .before .before .before .before .before .before in
     let a = s .args in
-    let e = c .before .before .before .before .load .ensures in
+    let e = c .before .before .before .before .get .ensures in
     let low = subst (λ x. x < 2 ^ a .n) (sym e) (s .pre .1 (v .i) (omega arith)) in (
       omega arith,
       rw (c .xor .ensures) (counted-step (a .n) (a .b .now) (v .i) (mask (a .f)) (mask (v .y)) (mask (c .before .when .result)) (c .before .before .before .parity .result)
@@ -72,7 +72,7 @@ column-spec =
     μ-loop
     none-requires
     loop-holds
-    load-requires
+    get-requires
     parity-requires
     unit-requires
     when-requires

@@ -24,7 +24,7 @@ reduce-requires-2 c κs =
     let s = c .before .before .before .before .before .before .before .before .before .before .before .before .before .before .before .before in
     let g = c .before .before .before .before .before .before .before .before .reduce .result in
     let e = c .before .before .before .before .before .before .before .before .reduce .ensures .1 in
-    (transposed-bounded (s .args .m .letters) (g .states) (mask (g .initial)) (mask (g .finals)) (c .before .before .before .before .before .before .before .before .reduce .last .1 .1 .1 .0) (c .before .before .before .before .before .transpose2 .last .1 .0) (e .bounded) (c .before .before .before .before .before .transpose2 .ensures), e .base, s .pre .4)
+    (transposed-bounded (s .args .m .letters) (g .states) (mask (g .initial)) (mask (g .finals)) (c .before .before .before .before .before .before .before .before .reduce .last .1 .1 .1 .0) (c .before .before .before .before .before .transpose2 .last .1 .0) (e .bounded) (c .before .before .before .before .before .transpose2 .ensures), e .base, e .bounded .size)
 
 returns : tie.Need-returns
 returns c =

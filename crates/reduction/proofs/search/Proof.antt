@@ -3,13 +3,14 @@ use mathlib.Core.Path.{_≡_}
 use Prim.Native.Nat.{_-_, _≤_, _<_}
 use native.Mathlib.Omega.{arith}
 use Rattle.rows.specs.Row.{width, mask}
+use Rattle.rows.specs.Table.{row}
 use Rattle.reduction.specs.Tables.{Searching}
 use Rattle.reduction.proofs.TableSearch.{count-bound}
 use Rattle.reduction.proofs.search.Statement.{statement}
 use Rattle.reduction.proofs.search.Tie as tie
 
 abbrev Inv-loop : tie.InvT-loop
-Inv-loop t m b₀ out₀ r₀ k₀ b out r k = (k ≤ r .count) × Searching (m .letters) t (m .states) (mask (m .initial)) (mask (m .finals)) b out (r .count) k 0 (mask (r .pivots)) × (r₀ .count ≤ r .count) × (r₀ .count ≡ 0 → r .count ≡ 0)
+Inv-loop t m b₀ out₀ r₀ k₀ b out r k = (k ≤ r .count) × Searching (m .letters) t (m .states) (mask (m .initial)) (mask (m .finals)) b out (r .count) k 0 (mask (r .pivots)) (mask (r .used)) × (r₀ .count ≤ r .count) × (r₀ .count ≡ 0 → r .count ≡ 0)
 
 abbrev μ-loop : tie.MeasureT-loop
 μ-loop t m b₀ out₀ r₀ k₀ b out r k = width - k
@@ -20,7 +21,7 @@ below c =
     let s = l .before in
     let a = s .args in
     let v = l .loop in
-    omega (arith, count-bound (a .m .states) (v .r .count) (mask (v .r .pivots)) (v .b) (v .inv .1 .search .basis), s .pre .0 .states)
+    omega (arith, count-bound (a .m .states) (v .r .count) (mask (v .r .pivots)) (row (v .b) 2) (v .b) (v .inv .1 .search .basis), s .pre .0 .states)
 
 loop-holds : tie.Need-loop-holds Inv-loop μ-loop
 loop-holds c = (omega arith, c .pre .1, omega arith, λ e. e)

@@ -1,0 +1,2 @@
+-- The definitions that the contracts on a basis cite.
+pub mod Basis

@@ -1,0 +1,2 @@
+-- The definitions that the contracts of the direct sum cite.
+pub mod Filled

@@ -1,0 +1,2 @@
+-- The definitions that the contracts on products cite.
+pub mod Lines
