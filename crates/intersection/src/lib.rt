@@ -116,5 +116,5 @@ pub fn meet(first: &[u8], second: &[u8], out: &mut [u8]) -> Written
         };
     }
     let m = product(&t, g, &u, h, &mut s);
-    operations::finish(&s, m, out)
+    operations::finish(&mut s, m, out)
 }

@@ -60,11 +60,10 @@ pub fn minimal_form(bytes: &[u8], out: &mut Table) -> Machine
     requires { ⌜ WellFormed (now bytes) × (length (now out) ≡ size) ⌝ }
     ensures { λ r. ⌜ (r .letters ≡ lettersOf (now (bytes .entry))) × Minimises (lettersOf (now (bytes .entry))) (automatonOf (now (bytes .entry))) (now (out .exit)) (r .states) (mask (r .initial)) (mask (r .finals)) ⌝ }
 {
-    let mut t = [0u64; 512];
-    let mut u = [0u64; 512];
     let mut b = [0u64; 192];
-    let m = codec::read(bytes, &mut t);
-    reduction::minimise(&t, m, &mut u, &mut b, out)
+    let mut c = [0u64; 512];
+    let m = codec::read(bytes, out);
+    reduction::minimise(out, m, &mut b, &mut c)
 }
 
 // Writes the minimal record of a record. Where it is granted with length n and dimension d, of the first n bytes of the buffer:

@@ -28,16 +28,15 @@ pub enum Unary {
     Mirror,
 }
 
-// The minimal record of the automaton of t and m, or refusal 11 or 12.
-pub fn finish(t: &Table, m: Machine, out: &mut [u8]) -> Written
+// The minimal record of the automaton of t and m, or refusal 11 or 12; t is left with the rows of the minimal automaton.
+pub fn finish(t: &mut Table, m: Machine, out: &mut [u8]) -> Written
     requires { ⌜ Valid (now t) m ⌝ }
     ensures answer { λ r. ⌜ r ≡ answerOf (resultOf (m .letters) (automatonIn (now (t .entry)) m) (length (now (out .entry)))) ⌝ }
     ensures buffer { λ _. ⌜ now (out .exit) ≡ bufferOf (resultOf (m .letters) (automatonIn (now (t .entry)) m) (length (now (out .entry)))) (now (out .entry)) ⌝ }
 {
-    let mut u = [0u64; 512];
     let mut b = [0u64; 192];
-    let mut s = [0u64; 512];
-    let g = reduction::minimise(t, m, &mut u, &mut b, &mut s);
+    let mut c = [0u64; 512];
+    let g = reduction::minimise(t, m, &mut b, &mut c);
     let d = g.states;
     if MAX_STATES < d {
         return Written::Refused {
@@ -46,7 +45,7 @@ pub fn finish(t: &Table, m: Machine, out: &mut [u8]) -> Written
             place: d,
         };
     }
-    codec::write(&s, g, out)
+    codec::write(t, g, out)
 }
 
 // A refusal of the checks, as the answer of an operation.
@@ -147,13 +146,12 @@ fn turn_record(bytes: &[u8], s: &mut Table) -> Machine
     requires { ⌜ WellFormed (now bytes) × (length (now s) ≡ size) ⌝ }
     ensures { λ r. ⌜ Built (lettersOf (now (bytes .entry))) (reversal (languageOf (now (bytes .entry)))) (now (s .exit)) r ⌝ }
 {
-    let mut t = [0u64; 512];
-    let g = codec::read(bytes, &mut t);
+    let g = codec::read(bytes, s);
     let n = g.states;
     let a = g.letters;
     let i = g.initial;
     let f = g.finals;
-    transpose::transpose(&t, s, a, n);
+    transpose::transpose(s, a, n);
     machine(n, a, f, i)
 }
 
@@ -175,7 +173,7 @@ pub fn sum(first: &[u8], second: &[u8], out: &mut [u8]) -> Written
     };
     let mut s = [0u64; 512];
     let m = add_records(first, second, &mut s);
-    finish(&s, m, out)
+    finish(&mut s, m, out)
 }
 
 // The automaton of an operation on a well-formed record, its rows in s.
@@ -203,7 +201,7 @@ fn operate(k: Unary, bytes: &[u8], out: &mut [u8]) -> Written
     };
     let mut s = [0u64; 512];
     let m = build(k, bytes, &mut s);
-    finish(&s, m, out)
+    finish(&mut s, m, out)
 }
 
 // Writes the minimal record of the words over the record's letters that it does not accept. `words`, `form`, `limits`: as for `sum`.

@@ -118,18 +118,19 @@ pub fn reduce(t: &Table, m: Machine, b: &mut Basis, out: &mut Table) -> Machine
     }
 }
 
-// The minimal automaton, its rows in out: the reduction of the mirror, and then that of the mirror of the result. Table u and b are for work.
-pub fn minimise(t: &Table, m: Machine, u: &mut Table, b: &mut Basis, out: &mut Table) -> Machine
-    requires { ⌜ Valid (now t) m × (length (now u) ≡ size) × (length (now b) ≡ basisSize) × (length (now out) ≡ size) ⌝ }
-    ensures { λ r. ⌜ (r .letters ≡ m .letters) × Minimises (m .letters) (automatonIn (now (t .entry)) m) (now (out .exit)) (r .states) (mask (r .initial)) (mask (r .finals)) ⌝ }
+// The minimal automaton, its rows in t: the reduction of the mirror, and then that of the mirror of the result. The basis b and the table c
+// are for work.
+pub fn minimise(t: &mut Table, m: Machine, b: &mut Basis, c: &mut Table) -> Machine
+    requires { ⌜ Valid (now t) m × (length (now b) ≡ basisSize) × (length (now c) ≡ size) ⌝ }
+    ensures { λ r. ⌜ (r .letters ≡ m .letters) × Minimises (m .letters) (automatonIn (now (t .entry)) m) (now (t .exit)) (r .states) (mask (r .initial)) (mask (r .finals)) ⌝ }
 {
     let a = m.letters;
     let n = m.states;
-    transpose::transpose(t, u, a, n);
+    transpose::transpose(t, a, n);
     let i = m.initial;
     let f = m.finals;
     let g = reduce(
-        u,
+        t,
         Machine {
             states: n,
             letters: a,
@@ -137,14 +138,14 @@ pub fn minimise(t: &Table, m: Machine, u: &mut Table, b: &mut Basis, out: &mut T
             finals: i,
         },
         b,
-        out,
+        c,
     );
     let d = g.states;
-    transpose::transpose(out, u, a, d);
+    transpose::transpose(c, a, d);
     let j = g.initial;
     let h = g.finals;
     reduce(
-        u,
+        c,
         Machine {
             states: d,
             letters: a,
@@ -152,6 +153,6 @@ pub fn minimise(t: &Table, m: Machine, u: &mut Table, b: &mut Basis, out: &mut T
             finals: j,
         },
         b,
-        out,
+        t,
     )
 }

@@ -22,6 +22,7 @@ use Rattle.rows.proofs.BitLaws.{bit-high, bit-ext, bits-lt}
 use Rattle.transpose.specs.Exchange.{padded, flip, exchanged, HasRows, OnlyBlock}
 use Rattle.transpose.specs.Transposed.{Transposed}
 use Rattle.transpose.proofs.FlipLaws.{flip-here, flip-there, flip-lt}
+use Rattle.transpose.proofs.BlockLaws.{only-then, padded-low, padded-high, padded-thin}
 
 -- ---- numbers mixed
 
@@ -105,34 +106,48 @@ turned-end n A T no-row S r k h = go (decLt k width)
 
 -- ---- the block
 
-padded-high : (l n : ℕ) (t : List ℕ) (r k : ℕ) → n ≤ r → padded n (row t l) r k ≡ false
-padded-high l n t r k h = ap (λ c. c && row t l r k) (le-ltb r n h)
-
-pub turn-start : (l n w : ℕ) (t s : List ℕ) → w ≤ levels → n ≤ 2 ^ w → ((i : ℕ) → i < n → at t l i < 2 ^ n) → HasRows l (2 ^ w) (padded n (row t l)) s
-    → Turned (2 ^ w) w (padded n (row t l)) (row s l)
-unfolding HasRows
-turn-start l n w t s hw hn low C = turned-start w (padded n (row t l)) (row s l) hw (λ r k h. padded-high l n t r k (le-trans hn h)) (λ r k h. go r k h (decLt r n)) C
-  where
-    go : (r k : ℕ) → 2 ^ w ≤ k → Dec (r < n) → padded n (row t l) r k ≡ false
-    go r k h (yes g) = ap (λ c. c && row t l r k) (lt-ltb r n g) ∙ bit-high n (low r g) k (le-trans hn h)
-    go r k h (no g) = padded-high l n t r k (omega arith)
+pub turn-start : (l w : ℕ) (t : List ℕ) → w ≤ levels → ((i : ℕ) → i < 2 ^ w → at t l i < 2 ^ (2 ^ w)) → Turned (2 ^ w) w (padded (2 ^ w) (row t l)) (row t l)
+turn-start l w t hw low =
+    turned-start w (padded (2 ^ w) (row t l)) (row t l) hw (padded-high (2 ^ w) (row t l)) (padded-thin l (2 ^ w) (2 ^ w) t low)
+    (λ r k h. sym (padded-low (2 ^ w) (row t l) r k h))
 
 pub turn-step : (l w b : ℕ) (A : ℕ → ℕ → Bool) (s s′ : List ℕ) → w ≤ levels → b < w → HasRows l (2 ^ w) (exchanged b (row s l)) s′ → Turned (2 ^ w) (suc b) A (row s l)
     → Turned (2 ^ w) b A (row s′ l)
 unfolding HasRows
 turn-step l w b A s s′ hw hb X S = turned-step w b A (row s l) (row s′ l) hw hb X S
 
-pub turn-end : (l n w : ℕ) (t s : List ℕ) → w ≤ levels → n ≤ 2 ^ w → Turned (2 ^ w) 0 (padded n (row t l)) (row s l) → HasRows l n (λ i k. padded n (row t l) k i) s
+pub turn-end : (l w : ℕ) (t s : List ℕ) → w ≤ levels → Turned (2 ^ w) 0 (padded (2 ^ w) (row t l)) (row s l) → HasRows l (2 ^ w) (λ i k. padded (2 ^ w) (row t l) k i) s
 unfolding HasRows
-turn-end l n w t s hw hn S r k g =
-    turned-end (2 ^ w) (padded n (row t l)) (row s l) (λ r k h. padded-high l n t r k (le-trans hn (le-trans (pow-mono hw) h))) S r k (lt-of-lt-of-le g hn)
+turn-end l w t s hw S = turned-end (2 ^ w) (padded (2 ^ w) (row t l)) (row s l) (λ r k h. padded-high (2 ^ w) (row t l) r k (le-trans (pow-mono hw) h)) S
 
 -- ---- the table, block by block
 
-pub transposed-none : (n : ℕ) (t s : List ℕ) → length s ≡ size → Transposed 0 n t s
-transposed-none n t s h = record { rows = λ l i z. absurd (not-suc-le-zero z); low = λ l i z. absurd (not-suc-le-zero z); size = h }
+-- The first l blocks are transposed, the others are as they were.
+pub record Turning (l n : ℕ) (t s : List ℕ) : Type 0 where
+  pub done : Transposed l n t s
+  pub rest : (m i : ℕ) → l ≤ m → i < width → at s m i ≡ at t m i
 
-pub transposed-step : (l n : ℕ) (t u s : List ℕ) → n ≤ width → OnlyBlock l u s × HasRows l n (λ i k. padded n (row t l) k i) s → Transposed l n t u → Transposed (l + 1) n t s
+pub turning-start : (n : ℕ) (t : List ℕ) → length t ≡ size → Turning 0 n t t
+turning-start n t h = record {
+  done = record { rows = λ l i z. absurd (not-suc-le-zero z); low = λ l i z. absurd (not-suc-le-zero z); size = h };
+  rest = λ m i p q. refl;
+}
+
+-- The matrix in the next block is within bounds.
+pub turning-low : (a l n : ℕ) (t s : List ℕ) → l < a → n ≤ width → ((l i : ℕ) → l < a → i < n → at t l i < 2 ^ n) → Turning l n t s → (i : ℕ) → i < n → at s l i < 2 ^ n
+turning-low a l n t s p h low T i q = subst (λ v. v < 2 ^ n) (sym (T .rest l i (le-refl l) (omega arith))) (low l i p q)
+
+-- A block whose rows from n on are cleared, as in c, and that is turned then, as in s.
+turned-block : (l n w : ℕ) (t u c s : List ℕ) → w ≤ levels → n ≤ 2 ^ w → ((i : ℕ) → i < width → at u l i ≡ at t l i)
+    → HasRows l (2 ^ w) (padded n (row u l)) c → HasRows l (2 ^ w) (λ i k. padded (2 ^ w) (row c l) k i) s → HasRows l n (λ i k. padded n (row t l) k i) s
+unfolding HasRows
+turned-block l n w t u c s hw hn same C T i k h = T i k (lt-of-lt-of-le h hn) ∙ go (decLt k (2 ^ w))
+  where
+    go : Dec (k < 2 ^ w) → padded (2 ^ w) (row c l) k i ≡ padded n (row t l) k i
+    go (yes g) = padded-low (2 ^ w) (row c l) k i g ∙ C k i g ∙ ap (λ v. ltb k n && bitOf v i) (same k (lt-of-lt-of-le g (pow-mono hw)))
+    go (no g) = padded-high (2 ^ w) (row c l) k i (omega arith) ∙ sym (padded-high n (row t l) k i (le-trans hn (omega arith)))
+
+transposed-step : (l n : ℕ) (t u s : List ℕ) → n ≤ width → OnlyBlock l u s × HasRows l n (λ i k. padded n (row t l) k i) s → Transposed l n t u → Transposed (l + 1) n t s
 unfolding HasRows
 transposed-step l n t u s h O M = rw add-one (record {
   rows = λ x i p q j g. up-to {Q = λ x. bitOf (at s x i) j ≡ bitOf (at t x j) i} l
@@ -143,3 +158,10 @@ transposed-step l n t u s h O M = rw add-one (record {
       (bits-lt (at s l i) n (λ k g. O .1 i k q ∙ ap (λ c. c && bitOf (at t l k) i) (le-ltb k n g))) x p;
   size = O .0 .size;
 })
+
+pub turning-step : (l n w : ℕ) (t u c s : List ℕ) → n ≤ width → w ≤ levels → n ≤ 2 ^ w → OnlyBlock l u c × HasRows l (2 ^ w) (padded n (row u l)) c
+    → OnlyBlock l c s × HasRows l (2 ^ w) (λ i k. padded (2 ^ w) (row c l) k i) s → Turning l n t u → Turning (l + 1) n t s
+turning-step l n w t u c s h hw hn C T R = record {
+  done = transposed-step l n t u s h (only-then l u c s (C .0) (T .0), turned-block l n w t u c s hw hn (λ i q. R .rest l i (le-refl l) q) (C .1) (T .1)) (R .done);
+  rest = λ m i p q. T .0 .others m i q (omega arith) ∙ C .0 .others m i q (omega arith) ∙ R .rest m i (omega arith) q;
+}

@@ -79,43 +79,42 @@ fn level(n: usize) -> usize
     w
 }
 
-// Copies the first n rows of block l, with rows of no bit behind them, to m rows in all.
-fn copy(t: &Table, out: &mut Table, l: usize, n: usize, m: usize)
-    requires { ⌜ (l < blocks) × (m ≤ width) × (length (now out) ≡ size) ⌝ }
-    ensures { λ r. ⌜ OnlyBlock l (now (out .entry)) (now (out .exit)) × HasRows l m (padded n (row (now (t .entry)) l)) (now (out .exit)) ⌝ }
+// Clears the rows of block l from n up to 2 ^ w, which may hold anything.
+fn clear(t: &mut Table, l: usize, n: usize, w: usize)
+    requires { ⌜ (l < blocks) × (w ≤ levels) × (n ≤ 2 ^ w) × (length (now t) ≡ size) ⌝ }
+    ensures { λ r. ⌜ OnlyBlock l (now (t .entry)) (now (t .exit)) × HasRows l (2 ^ w) (padded n (row (now (t .entry)) l)) (now (t .exit)) ⌝ }
 {
-    let mut i: usize = 0;
+    let none = rows::none();
+    let m = power(w);
+    let mut i = n;
     while i < m {
-        let x = rows::load(t, l, i);
-        let y = rows::when(i < n, x);
-        rows::store(out, l, i, y);
+        rows::store(t, l, i, none);
         i += 1;
     }
 }
 
-// Transposes the matrix in block l, of at most 2 ^ w rows.
-fn turn(t: &Table, out: &mut Table, l: usize, n: usize, w: usize)
-    requires { ⌜ (l < blocks) × (w ≤ levels) × (n ≤ 2 ^ w) × ((i : ℕ) → i < n → at (now t) l i < 2 ^ n) × (length (now out) ≡ size) ⌝ }
-    ensures { λ r. ⌜ OnlyBlock l (now (out .entry)) (now (out .exit)) × HasRows l n (λ i k. padded n (row (now (t .entry)) l) k i) (now (out .exit)) ⌝ }
+// Transposes the matrix in block l, of 2 ^ w rows.
+fn turn(t: &mut Table, l: usize, w: usize)
+    requires { ⌜ (l < blocks) × (w ≤ levels) × ((i : ℕ) → i < 2 ^ w → at (now t) l i < 2 ^ (2 ^ w)) × (length (now t) ≡ size) ⌝ }
+    ensures { λ r. ⌜ OnlyBlock l (now (t .entry)) (now (t .exit)) × HasRows l (2 ^ w) (λ i k. padded (2 ^ w) (row (now (t .entry)) l) k i) (now (t .exit)) ⌝ }
 {
-    let m = power(w);
-    copy(t, out, l, n, m);
     let mut b = w;
     while b > 0 {
         b -= 1;
-        stage(out, l, w, b);
+        stage(t, l, w, b);
     }
 }
 
-// Transposes the n by n matrices in the first a blocks.
-pub fn transpose(t: &Table, out: &mut Table, a: usize, n: usize)
-    requires { ⌜ (a ≤ blocks) × (n ≤ width) × ((l i : ℕ) → l < a → i < n → at (now t) l i < 2 ^ n) × (length (now out) ≡ size) ⌝ }
-    ensures { λ r. ⌜ Transposed a n (now (t .entry)) (now (out .exit)) ⌝ }
+// Transposes the n by n matrices in the first a blocks, in place.
+pub fn transpose(t: &mut Table, a: usize, n: usize)
+    requires { ⌜ (a ≤ blocks) × (n ≤ width) × ((l i : ℕ) → l < a → i < n → at (now t) l i < 2 ^ n) × (length (now t) ≡ size) ⌝ }
+    ensures { λ r. ⌜ Transposed a n (now (t .entry)) (now (t .exit)) ⌝ }
 {
     let w = level(n);
     let mut l: usize = 0;
     while l < a {
-        turn(t, out, l, n, w);
+        clear(t, l, n, w);
+        turn(t, l, w);
         l += 1;
     }
 }

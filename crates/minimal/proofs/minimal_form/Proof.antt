@@ -16,19 +16,21 @@ read-requires : tie.Need-read-requires
 read-requires c κs = search needs
 
 minimise-requires : tie.Need-minimise-requires
-minimise-requires c κs = (c .before .before .before .before .read .ensures .valid, refl, refl, c .before .before .before .before .before .before .before .pre .1)
+minimise-requires c κs = (c .before .before .before .read .ensures .valid, refl, refl)
 
 returns : tie.Need-returns
 returns c =
-    let bs = now (c .before .before .before .before .before .before .before .before .args .bytes) in
-    let t = c .before .before .before .before .before .read .last .1 .0 in
-    let m = c .before .before .before .before .before .read .result in
-    let h = c .before .before .before .before .before .read .ensures in
+    let k = c .before .before .before .before in
+    let bs = now (k .before .before .before .args .bytes) in
+    let t = k .read .last .1 .0 in
+    let m = k .read .result in
+    let h = k .read .ensures in
+    let s = c .minimise .last .0 in
     let r = c .minimise .result in
     let e = c .minimise .ensures in (
       e .0 ∙ h .letters,
-      minimises-same (lettersOf bs) (automatonIn t m) (automatonOf bs) (c .minimise .last .1 .1 .1 .1 .0) (r .states) (mask (r .initial)) (mask (r .finals)) (bits-language (lettersOf bs) (automatonIn t m) (automatonOf bs) (bits-held bs t m h))
-          (subst (λ a. Minimises a (automatonIn t m) (c .minimise .last .1 .1 .1 .1 .0) (r .states) (mask (r .initial)) (mask (r .finals))) (h .letters) (e .1)),
+      minimises-same (lettersOf bs) (automatonIn t m) (automatonOf bs) s (r .states) (mask (r .initial)) (mask (r .finals)) (bits-language (lettersOf bs) (automatonIn t m) (automatonOf bs) (bits-held bs t m h))
+          (subst (λ a. Minimises a (automatonIn t m) s (r .states) (mask (r .initial)) (mask (r .finals))) (h .letters) (e .1)),
     )
 
 pub minimal-form-spec : {M : Type 1} → statement M
