@@ -10,7 +10,7 @@ use Rattle.automata.specs.Mask.{bitOf}
 use Rattle.rows.specs.Row.{width, mask}
 use Rattle.rows.specs.Table.{row}
 use Rattle.elimination.specs.Echelon.{onto}
-use Rattle.elimination.proofs.PlaceLaws.{ownOf, coefOf, if-same, if-other, place-old, place-new, pivot-below, has-room, unused}
+use Rattle.elimination.proofs.PlaceLaws.{ownOf, coefOf, if-same, if-other, place-old, place-new, has-room, unused}
 use borrow.Author.Needs.{needs}
 use Rattle.elimination.proofs.insert.Statement.{statement}
 use Rattle.elimination.proofs.insert.Tie as tie
