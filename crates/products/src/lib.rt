@@ -5,6 +5,7 @@ ghost use lib.ListN.{length};
 ghost use Rattle.rows.specs.Row.{mask};
 ghost use Rattle.rows.specs.Table.{blocks};
 ghost use Rattle.rows.specs.Product.{product};
+ghost use Rattle.rows.specs.Beside.{beside};
 ghost use Rattle.record.specs.Record.{statesOf, lettersOf, rowAt, WellFormed};
 ghost use Rattle.products.specs.Lines.{Upto, Letters, Both};
 use kernels::Four;
@@ -141,8 +142,21 @@ pub fn times_all(bytes: &[u8], x: Row, s: &mut Line)
     put_four(bytes, 4, x, s);
 }
 
-// The row x times the matrix of every letter of two records side by side, into a line.
-pub fn times_both(first: &[u8], second: &[u8], x: Row, s: &mut Line)
+// The row x times the matrix of letter l of two records side by side.
+fn times_pair(first: &[u8], second: &[u8], l: usize, x: Row) -> Row
+    requires { ⌜ WellFormed (now first) × WellFormed (now second) × (lettersOf (now second) ≡ lettersOf (now first)) × (l < lettersOf (now first)) × (mask x < 2 ^ (statesOf (now first) + statesOf (now second))) ⌝ }
+    ensures { λ r. ⌜ mask r ≡ product (statesOf (now (first .entry)) + statesOf (now (second .entry))) (mask x) (beside (rowAt (now (first .entry))) (rowAt (now (second .entry))) (statesOf (now (first .entry))) l) ⌝ }
+{
+    let n = record::size(first[5]);
+    let h = rows::lowered(x, n);
+    let low = rows::xor(x, rows::moved(h, n));
+    let y = times_one(first, l, low);
+    let z = times_one(second, l, h);
+    rows::xor(y, rows::moved(z, n))
+}
+
+// The row x times the matrix of every letter of two records side by side, into a line: a line for each, then both merged.
+fn times_lines(first: &[u8], second: &[u8], x: Row, s: &mut Line)
     requires { ⌜ WellFormed (now first) × WellFormed (now second) × (lettersOf (now second) ≡ lettersOf (now first)) × (mask x < 2 ^ (statesOf (now first) + statesOf (now second))) × (length (now s) ≡ blocks) ⌝ }
     ensures { λ _. ⌜ Both (now (first .entry)) (now (second .entry)) (mask x) (now (s .exit)) ⌝ }
 {
@@ -160,4 +174,16 @@ pub fn times_both(first: &[u8], second: &[u8], x: Row, s: &mut Line)
         kernels::put(s, l, rows::xor(kernels::pick(s, l), z));
         l += 1;
     }
+}
+
+// The same; over one letter there is no line to merge.
+pub fn times_both(first: &[u8], second: &[u8], x: Row, s: &mut Line)
+    requires { ⌜ WellFormed (now first) × WellFormed (now second) × (lettersOf (now second) ≡ lettersOf (now first)) × (mask x < 2 ^ (statesOf (now first) + statesOf (now second))) × (length (now s) ≡ blocks) ⌝ }
+    ensures { λ _. ⌜ Both (now (first .entry)) (now (second .entry)) (mask x) (now (s .exit)) ⌝ }
+{
+    if record::size(first[6]) == 1 {
+        kernels::put(s, 0, times_pair(first, second, 0, x));
+        return;
+    }
+    times_lines(first, second, x, s);
 }

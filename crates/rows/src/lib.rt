@@ -131,11 +131,11 @@ pub fn lowest(x: Row) -> usize
     u64::trailing_zeros(x.bits) as usize
 }
 
-// How many bits x needs: none stands at that place or above.
+// A place such that no bit of x stands there or above. It is the next multiple of four: a loop up to it goes by fours.
 pub fn span(x: Row) -> usize
     ensures { λ r. ⌜ (r ≤ width) × (mask x < 2 ^ r) ⌝ }
 {
-    64 - u64::leading_zeros(x.bits) as usize
+    (67 - u64::leading_zeros(x.bits) as usize) / 4 * 4
 }
 
 // x without its lowest bit.
