@@ -22,12 +22,8 @@ use Rattle.elimination.specs.Place.{BasisIn, Old, New, Placed}
 use Rattle.reduction.specs.Tables.{SearchIn, accepted}
 use Rattle.reduction.proofs.SearchLaws.{search-next}
 use Rattle.reduction.proofs.TableSearch.{count-bound, empty-cover, placed-length, placed-cover, search-start, search-old-row, search-new-row}
-use Rattle.comparison.specs.Hunt.{Hunting, Stopped}
+use Rattle.comparison.specs.Hunt.{shared, Hunting, Stopped}
 use Rattle.comparison.proofs.Complete.{withRow, with-kept, with-new}
-
--- The parity of y and f, of n bits.
-abbrev pub shared : ℕ → ℕ → ℕ → Bool
-shared n y f = xorBelow n (λ j. bitOf y j && bitOf f j)
 
 -- ---- the initial row
 
@@ -52,25 +48,6 @@ module _ (a : ℕ) (M : ℕ → ℕ → ℕ) (n i f : ℕ) (C C′ : ℕ → ℕ
     trail = g;
     none = λ r g. ap (λ x. shared n x f) (first-row P r g .1) ∙ e;
   }
-
-  -- An accepted initial row is a row found.
-  pub stopped-start : shared n i f ≡ true → Stopped a M n i f b′ w 0
-  stopped-start e = record {
-    coef = C′;
-    made = nothing;
-    count = d;
-    upto = 0;
-    next = 0;
-    pivots = p;
-    search = search-start a M n i f C C′ c b b′ (fromIn w) (byIn w) nothing d p v P;
-    inside = (some P, some P, omega arith);
-    found = ap (λ x. shared n x f) (first-row P 0 (some P) .1) ∙ e;
-    first = λ q h. absurd (omega arith);
-  }
-    where
-      some : Placed n 0 0 0 i C C′ c b b′ d p v → 0 < d
-      some (inl O) = absurd (false≢true (sym (xor-none n (λ j g. ap (λ z. z && bitOf f j) (O .sum j))) ∙ e))
-      some (inr N) = omega (arith, N .count)
 
 -- ---- one pair
 

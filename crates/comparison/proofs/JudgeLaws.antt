@@ -1,24 +1,31 @@
 -- What the search over two records side by side says of their languages.
-use mathlib.Core.Path.{_≡_, sym, subst, _∙_}
-use mathlib.Core.Bool.{Bool, _&&_, and-comm}
-use mathlib.Core.List.{List}
+use mathlib.Core.Path.{_≡_, sym, ap, subst, _∙_}
+use mathlib.Core.Bool.{Bool, true, _&&_, and-comm}
+use mathlib.Core.List.{List, [], _∷_}
+use mathlib.Core.Logic.{inl, inr}
 use mathlib.Core.Option.{none}
-use Prim.Native.Nat.{ℕ, _<_}
+use Prim.Native.Nat.{ℕ, _<_, _≤_}
+use native.Mathlib.Nat.{not-suc-le-zero}
 use native.Mathlib.Omega.{arith}
-use Rattle.automata.specs.Xor.{xorBelow}
 use Rattle.automata.specs.Automaton.{Automaton}
 use Rattle.automata.specs.Mask.{bitOf}
+use Rattle.automata.specs.Word.{Shortlex}
+use Rattle.automata.specs.Operations.{sumOf}
 use Rattle.automata.specs.FirstDifference.{firstDifference}
 use Rattle.automata.proofs.Xor.{xor-cong}
+use Rattle.automata.proofs.Acceptance.{accepts-reach}
+use Rattle.automata.proofs.Operations.{initial-low, accepts-sum}
+use Rattle.automata.proofs.Minimal.{bits-language}
+use Rattle.automata.proofs.FirstDifference.{some-difference}
 use Rattle.rows.specs.declared.Machine.{Machine}
 use Rattle.rows.specs.Row.{mask}
-use Rattle.rows.specs.Table.{at, row}
+use Rattle.rows.specs.Table.{blocks, at, row}
 use Rattle.rows.specs.Machine.{autoBy}
 use Rattle.trail.specs.Trail.{fromIn, byIn}
 use Rattle.record.specs.Bytes.{number}
 use Rattle.record.specs.Record.{rowBytes, finalAt, statesOf, lettersOf, automatonOf}
 use Rattle.comparison.specs.Both.{besideOf, Paired}
-use Rattle.comparison.specs.Hunt.{Hunting, Stopped}
+use Rattle.comparison.specs.Hunt.{shared, Hunting, Stopped}
 use Rattle.comparison.specs.Judged.{Found}
 use Rattle.comparison.proofs.Complete.{first-row, row-word, row-side, no-row}
 use Rattle.comparison.proofs.BothLaws.{paired-sizes, paired-thin, paired-bits}
@@ -43,7 +50,7 @@ module _ (bs cs : List ℕ) (m : Machine) (P : Paired bs cs m) where
       (no-row a both A B (paired-thin bs cs m P) (paired-bits bs cs m P) d d 0 (bitOf p) (row b 1) (row b 0) (H .coef) (fromIn w) (byIn w) (H .made) (H .search) (H .none))
 
   -- The search stopped at row r.
-  pub judged-differs : (b w : List ℕ) (r : ℕ) (first : Bool) → first ≡ xorBelow (statesOf bs) (λ j. bitOf (number rowBytes bs finalAt) j && bitOf (at b 1 r) j)
+  pub judged-differs : (b w : List ℕ) (r : ℕ) (first : Bool) → first ≡ shared (statesOf bs) (number rowBytes bs finalAt) (at b 1 r)
       → Stopped a (besideOf bs cs) (m .states) (mask (m .initial)) (mask (m .finals)) b w r → Found (lettersOf bs) A B w r first
   judged-differs b w r first e H = subst (λ x. Found x A B w r first) (P .letters) (record {
     word = first-row a both A B (paired-thin bs cs m P) (paired-bits bs cs m P) (H .count) (H .upto) (H .next) (bitOf (H .pivots)) (row b 1) (row b 0) (H .coef) (fromIn w) (byIn w) (H .made) (H .inside .2) (H .inside .1) (H .search) r (H .inside .0) (H .found) (H .first);
@@ -57,3 +64,29 @@ module _ (bs cs : List ℕ) (m : Machine) (P : Paired bs cs m) where
       word = λ q p h. row-word a both A B (paired-thin bs cs m P) (paired-bits bs cs m P) (H .count) (H .upto) (H .next) (bitOf (H .pivots)) (row b 1) (row b 0) (H .coef) (fromIn w) (byIn w) (H .made) (H .inside .2) (H .inside .1) (H .search) q p (omega (arith, H .inside .0));
     };
   })
+
+  -- The empty word tells the two apart.
+  pub judged-empty : (w : List ℕ) (first : Bool) → first ≡ shared (statesOf bs) (number rowBytes bs finalAt) (mask (m .initial)) → shared (m .states) (mask (m .initial)) (mask (m .finals)) ≡ true → Found (lettersOf bs) A B w 0 first
+  judged-empty w first e z = record {
+    word = some-difference (lettersOf bs) A B [] (record {
+      over = tt;
+      differs = sym (accepts-sum A B []) ∙ sym (bits-language a both (sumOf A B) (paired-bits bs cs m P) [] tt) ∙ accepts-reach both [] ∙ z;
+      first = λ u o h. absurd (none-before u h);
+    });
+    side = e ∙ xor-cong (statesOf bs) (λ j g. and-comm (bitOf (number rowBytes bs finalAt) j) (bitOf (mask (m .initial)) j) ∙ ap (λ b. b && bitOf (number rowBytes bs finalAt) j) (own j g)) ∙ sym (accepts-reach A []);
+    traced = record {
+      small = omega arith;
+      letters = subst (λ x. x ≤ blocks) (P .letters) (paired-sizes bs cs m P .2);
+      parent = λ q p h. absurd (omega arith);
+      letter = λ q p h. absurd (omega arith);
+      word = λ q p h. absurd (omega arith);
+    };
+  }
+    where
+      none-before : (u : List ℕ) → Shortlex u [] → ⊥
+      none-before u (inl h) = not-suc-le-zero h
+      none-before [] (inr (h, g)) = g
+      none-before (x ∷ u) (inr (h, g)) = absurd (omega arith)
+
+      own : (j : ℕ) → j < statesOf bs → bitOf (mask (m .initial)) j ≡ A .initial j
+      own j g = paired-bits bs cs m P .initial j (omega (arith, P .states)) ∙ initial-low A B j g

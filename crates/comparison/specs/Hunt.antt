@@ -1,13 +1,16 @@
 -- The search for the first accepted row, which stops there. The automaton has the rows M, n states, initial row i and final column f over
 -- a letters; the basis is the table b, the trail w.
+--   shared      whether two rows of n bits share an odd number of them
 --   Hunting     no row found is accepted; the next pair is row k by letter l
 --   Stopped     row r is the first row found that is accepted
 --   Hunted      what a step of the search comes to, from d rows on
 use mathlib.Core.Path.{_≡_}
-use mathlib.Core.Bool.{Bool, true, false}
+use mathlib.Core.Bool.{Bool, true, false, _&&_}
 use mathlib.Core.List.{List}
 use Prim.Native.Nat.{ℕ, _<_, _≤_}
 use lib.ListN.{length}
+use Rattle.automata.specs.Xor.{xorBelow}
+use Rattle.automata.specs.Mask.{bitOf}
 use Rattle.rows.specs.Row.{mask}
 use Rattle.basis.specs.Basis.{basisSize}
 use Rattle.trail.specs.Trail.{trailSize, fromIn, byIn}
@@ -15,6 +18,9 @@ use Rattle.elimination.specs.Place.{Covered}
 use Rattle.reduction.specs.Tables.{SearchIn, accepted}
 use Rattle.comparison.specs.declared.Hunt.{Hunt}
 use Rattle.comparison.specs.declared.Hunt.the-variants.{Going, Found}
+
+abbrev pub shared : ℕ → ℕ → ℕ → Bool
+shared n x y = xorBelow n (λ j. bitOf x j && bitOf y j)
 
 -- The coefficients and the products done are in no table: `coef` and `made` name them.
 pub record Hunting (a : ℕ) (M : ℕ → ℕ → ℕ) (n i f : ℕ) (b w : List ℕ) (d k l p v : ℕ) : Type 0 where

@@ -1,6 +1,7 @@
 // The comparison of two well-formed records over the same letters: both side by side, straight from their bytes, and the search for the
 // first row that just one accepts.
 ghost use mathlib.Core.Path.{_≡_};
+ghost use mathlib.Core.Bool.{false};
 ghost use Prim.Native.Nat.{_+_, _<_};
 ghost use lib.ListN.{length};
 ghost use Rattle.rows.specs.Row.{mask};
@@ -10,7 +11,7 @@ ghost use Rattle.basis.specs.Basis.{basisSize};
 ghost use Rattle.trail.specs.Trail.{trailSize};
 ghost use Rattle.record.specs.Record.{lettersOf, WellFormed, automatonOf};
 ghost use Rattle.comparison.specs.Both.{besideOf, Paired};
-ghost use Rattle.comparison.specs.Hunt.{Hunting, Hunted, Ended};
+ghost use Rattle.comparison.specs.Hunt.{shared, Hunting, Hunted, Ended};
 ghost use Rattle.comparison.specs.Judged.{Judged};
 use basis::Basis;
 use elimination::Size;
@@ -103,14 +104,13 @@ fn try_rows(first: &[u8], second: &[u8], m: Machine, b: &mut Basis, w: &mut Trai
     Hunt::Going(r)
 }
 
-// The first accepted row of the two side by side, in shortlex order of the words that lead to the rows.
+// The first accepted row of the two side by side, in shortlex order of the words that lead to the rows; the initial row is not accepted.
 fn first_accepted(first: &[u8], second: &[u8], m: Machine, b: &mut Basis, w: &mut Trail) -> Hunt
-    requires { ⌜ Paired (now first) (now second) m × (length (now b) ≡ basisSize) × (length (now w) ≡ trailSize) ⌝ }
+    requires { ⌜ Paired (now first) (now second) m × (length (now b) ≡ basisSize) × (length (now w) ≡ trailSize) × (shared (m .states) (mask (m .initial)) (mask (m .finals)) ≡ false) ⌝ }
     ensures { λ r. ⌜ Ended (m .letters) (besideOf (now (first .entry)) (now (second .entry))) (m .states) (mask (m .initial)) (mask (m .finals)) (now (b .exit)) (now (w .exit)) r ⌝ }
 {
-    let i = m.initial;
-    let f = m.finals;
     let none = rows::none();
+    let i = m.initial;
     let s = elimination::insert(
         b,
         m.states,
@@ -121,9 +121,6 @@ fn first_accepted(first: &[u8], second: &[u8], m: Machine, b: &mut Basis, w: &mu
         },
         i,
     );
-    if rows::parity(i, f) {
-        return Hunt::Found(0);
-    }
     try_rows(first, second, m, b, w, s)
 }
 
@@ -158,15 +155,23 @@ pub fn compare(first: &[u8], second: &[u8], w: &mut Trail) -> Verdict
     ensures { λ r. ⌜ Judged (lettersOf (now (first .entry))) (automatonOf (now (first .entry))) (automatonOf (now (second .entry))) (now (w .exit)) r ⌝ }
 {
     let m = paired(first, second);
+    let i = m.initial;
+    let g = record::field_at(first, FINAL_AT);
+    // Nothing is cleared for a pair that the empty word tells apart.
+    if rows::parity(i, m.finals) {
+        return Verdict::Differs {
+            row: 0,
+            first: rows::parity(g, i),
+        };
+    }
     let mut b = [0u64; 192];
     let found = first_accepted(first, second, m, &mut b, w);
     let Hunt::Found(r) = found else {
         return Verdict::Same;
     };
     let x = basis::get(&b, 1, r);
-    let f = record::field_at(first, FINAL_AT);
     Verdict::Differs {
         row: r,
-        first: rows::parity(f, x),
+        first: rows::parity(g, x),
     }
 }

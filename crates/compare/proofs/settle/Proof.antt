@@ -89,7 +89,7 @@ returns-3 c =
     let room : length w ≤ length (now (a .word)) = rw e at (c .before .before .before .before .before .before .if1 .left) in (
       ap₂ Differs e (c .named-side .ensures ∙ ap sideOf (found (c .before .before .before .before .before .before .before .before .before .before .before .before) .side)) ∙ sym (word-answer (now (a .first)) (now (a .second)) (now (a .word)) w (s .pre) (difference (c .before .before .before .before .before .before .before .before .before .before .before .before)) room),
       c .before .before .before .trace .ensures ∙ ap (λ k. w ++ drop k (now (a .word))) e
-      ∙ sym (ap (λ x. bufferOf x (now (a .word))) (outcome-word (now (a .first)) (now (a .second)) (length (now (a .word))) (s .pre) w (difference (c .before .before .before .before .before .before .before .before .before .before .before .before)) ∙ fit-done (length (now (a .word))) w refl room)),
+          ∙ sym (ap (λ x. bufferOf x (now (a .word))) (outcome-word (now (a .first)) (now (a .second)) (length (now (a .word))) (s .pre) w (difference (c .before .before .before .before .before .before .before .before .before .before .before .before)) ∙ fit-done (length (now (a .word))) w refl room)),
     )
 
 pub settle-spec : {M : Type 1} → statement M

@@ -11,7 +11,8 @@ use Rattle.rows.proofs.ProductLaws.{product-lt}
 use Rattle.reduction.proofs.TableSearch.{count-bound}
 use Rattle.comparison.specs.Both.{besideOf}
 use Rattle.comparison.proofs.BothLaws.{paired-sizes, paired-rows}
-use Rattle.comparison.proofs.HuntLaws.{shared, row-kept, hunting-old, new-below, hunting-new, stopped-new}
+use Rattle.comparison.specs.Hunt.{shared}
+use Rattle.comparison.proofs.HuntLaws.{row-kept, hunting-old, new-below, hunting-new, stopped-new}
 use borrow.Author.Needs.{needs}
 use Rattle.comparison.proofs.try_pair.Statement.{statement}
 use Rattle.comparison.proofs.try_pair.Tie as tie
