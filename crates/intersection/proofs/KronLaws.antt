@@ -27,8 +27,8 @@ use Rattle.rows.specs.Product.{product}
 use Rattle.rows.proofs.BitLaws.{bit-high, bit-shl, bit-shl-low}
 use Rattle.rows.proofs.ProductLaws.{bit-product, product-lt}
 use Rattle.direct_sum.specs.Filled.{Filled}
-use Rattle.operations.specs.Inner.{Built}
-use Rattle.operations.proofs.BuiltLaws.{built}
+use Rattle.results.specs.Built.{Built}
+use Rattle.results.proofs.BuiltLaws.{built}
 use Rattle.intersection.specs.Kron.{kron, crossed}
 
 -- ---- pairs of states

@@ -25,11 +25,11 @@ use Rattle.record.specs.declared.Written.{Written}
 use Rattle.record.specs.declared.Written.the-variants.{Refused}
 use Rattle.operands.specs.Operands.{pairOf}
 use Rattle.operands.specs.declared.Pair.the-variants.{Refused as Bad}
-use Rattle.operations.specs.Operations.{resultOf, Operands, Limits}
-use Rattle.operations.specs.Inner.{Built}
-use Rattle.operations.proofs.ResultLaws.{result-number, limits-of, Service, service-of}
-use Rattle.operations.proofs.OperationLaws.{sizes, pair-wrote, pair-refused, pair-passed}
-use Rattle.operations.proofs.BuiltLaws.{built-same}
+use Rattle.results.specs.Results.{resultOf, Operands, Limits}
+use Rattle.results.specs.Built.{Built}
+use Rattle.results.proofs.ResultLaws.{result-number, limits-of, Service, service-of}
+use Rattle.results.proofs.Passed.{sizes, pair-wrote, pair-refused, pair-passed}
+use Rattle.results.proofs.BuiltLaws.{built-same}
 use Rattle.intersection.specs.Meet.{maxProduct, crossing, meetOutcome, DimensionProduct, Small}
 
 -- What a minimal automaton in a table accepts.

@@ -16,7 +16,7 @@ use Rattle.automata.specs.Operations.{meetOf}
 use Rattle.record.specs.Record.{lettersOf, automatonOf}
 use Rattle.record.specs.Outcome.{Outcome, refused}
 use Rattle.operands.specs.Operands.{pairOf, afterPair}
-use Rattle.operations.specs.Operations.{resultOf}
+use Rattle.results.specs.Results.{resultOf}
 
 abbrev pub maxProduct : ℕ
 maxProduct = 64

@@ -11,8 +11,8 @@ ghost use Rattle.rows.specs.Machine.{automatonIn, Valid};
 ghost use Rattle.direct_sum.specs.Filled.{Filled};
 ghost use Rattle.record.specs.Record.{maxStates, lettersOf, languageOf};
 ghost use Rattle.record.specs.Outcome.{answerOf, bufferOf};
-ghost use Rattle.operations.specs.Operations.{MinimalRecord, Operands, Limits};
-ghost use Rattle.operations.specs.Inner.{Built};
+ghost use Rattle.results.specs.Results.{MinimalRecord, Operands, Limits};
+ghost use Rattle.results.specs.Built.{Built};
 ghost use Rattle.intersection.specs.Meet.{maxProduct, meetOutcome, DimensionProduct, Small};
 ghost use Rattle.intersection.specs.Kron.{kron, crossed};
 use operands::Pair;
@@ -100,7 +100,7 @@ pub fn meet(first: &[u8], second: &[u8], out: &mut [u8]) -> Written
 {
     let p = operands::check_pair(first, second);
     let Pair::Both = p else {
-        return operations::refuse(p);
+        return results::refuse(p);
     };
     let mut t = [0u64; 512];
     let mut u = [0u64; 512];
@@ -116,5 +116,5 @@ pub fn meet(first: &[u8], second: &[u8], out: &mut [u8]) -> Written
         };
     }
     let m = product(&t, g, &u, h, &mut s);
-    operations::finish(&mut s, m, out)
+    results::finish(&mut s, m, out)
 }

@@ -15,7 +15,8 @@ use Rattle.record.specs.Record.{maxStates, lettersOf, checkOf, automatonOf, lan
 use Rattle.record.specs.Outcome.{Outcome, refused, answerOf, bufferOf}
 use Rattle.record.specs.declared.Written.{Written}
 use Rattle.record.specs.declared.Written.the-variants.{Done, Refused}
-use Rattle.operations.specs.Operations.{resultOf, sumOutcome, unaryOf, unaryOutcome, MinimalRecord, Limits}
+use Rattle.results.specs.Results.{resultOf, MinimalRecord, Limits}
+use Rattle.operations.specs.Operations.{sumOutcome, unaryOf, unaryOutcome}
 use Rattle.operations.specs.declared.Unary.{Unary}
 use Rattle.intersection.specs.Meet.{maxProduct, meetOutcome}
 use Rattle.replies.specs.declared.Reply.{Reply}

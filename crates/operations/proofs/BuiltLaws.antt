@@ -8,7 +8,7 @@ use lib.Bits.{bitXor}
 use Rattle.automata.specs.Xor.{_⊕_}
 use Rattle.automata.specs.Mask.{bitOf}
 use Rattle.automata.specs.Automaton.{accepts}
-use Rattle.automata.specs.Language.{Language, Same, symmetricDifference, complement, reversal}
+use Rattle.automata.specs.Language.{Same, symmetricDifference, complement, reversal}
 use Rattle.automata.specs.Minimal.{SameBits}
 use Rattle.automata.specs.Operations.{sumOf, allWords, mirrorOf}
 use Rattle.automata.proofs.Shortlex.{over-reverse}
@@ -27,23 +27,8 @@ use Rattle.direct_sum.proofs.SumLaws.{sum-bounded, sum-bits}
 use Rattle.record.specs.Record.{lettersOf, automatonOf}
 use Rattle.record.specs.Held.{Holds}
 use Rattle.record.proofs.Held.{bits-held}
-use Rattle.operations.specs.Inner.{Built}
-
--- ---- by the numbers of a machine
-
-pub built : (a : ℕ) (L : Language) (t : List ℕ) (m : Machine) (n i f : ℕ) → m .letters ≡ a → m .states ≡ n → mask (m .initial) ≡ i → mask (m .finals) ≡ f
-    → Bounded a t n i f → Same a L (accepts (auto t n i f)) → Built a L t m
-built a L t m n i f el es ei ef ok same = record {
-  letters = el;
-  valid = subst (λ x. Bounded x t (m .states) (mask (m .initial)) (mask (m .finals))) (sym el) (fix (λ n i f. Bounded a t n i f) ok);
-  words = fix (λ n i f. Same a L (accepts (auto t n i f))) same;
-}
-  where
-    fix : (P : ℕ → ℕ → ℕ → Type 0) → P n i f → P (m .states) (mask (m .initial)) (mask (m .finals))
-    fix P x = subst (λ k. P k (mask (m .initial)) (mask (m .finals))) (sym es) (subst (λ k. P n k (mask (m .finals))) (sym ei) (subst (λ k. P n i k) (sym ef) x))
-
-pub built-same : (a b : ℕ) (L K : Language) (t : List ℕ) (m : Machine) → a ≡ b → Same b K L → Built a L t m → Built b K t m
-built-same a b L K t m e same B = record { letters = B .letters ∙ e; valid = B .valid; words = λ w ow. same w ow ∙ subst (λ x. Same x L (accepts (automatonIn t m))) e (B .words) w ow }
+use Rattle.results.specs.Built.{Built}
+use Rattle.results.proofs.BuiltLaws.{built, built-same}
 
 -- What a record's table accepts.
 held-words : (bs t : List ℕ) (m : Machine) → Holds bs t m → Same (lettersOf bs) (accepts (automatonOf bs)) (accepts (automatonIn t m))

@@ -1,3 +1,2 @@
-pub mod ResultLaws
 pub mod OperationLaws
 pub mod BuiltLaws

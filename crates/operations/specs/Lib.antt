@@ -1,3 +1,2 @@
--- What a reader must believe: Operations. Inner is for the contracts of inner functions.
+-- The definitions that the contracts of the operations cite.
 pub mod Operations
-pub mod Inner

@@ -11,8 +11,9 @@ ghost use Rattle.rows.specs.Machine.{automatonIn, Valid};
 ghost use Rattle.direct_sum.specs.Filled.{Filled};
 ghost use Rattle.record.specs.Record.{maxStates, lettersOf, WellFormed, languageOf};
 ghost use Rattle.record.specs.Outcome.{answerOf, bufferOf};
-ghost use Rattle.operations.specs.Operations.{resultOf, refusedAs, sumOutcome, unaryLanguage, unaryOutcome, complementOutcome, mirrorOutcome, MinimalRecord, Operands, Limits};
-ghost use Rattle.operations.specs.Inner.{Built};
+ghost use Rattle.results.specs.Results.{MinimalRecord, Operands, Limits};
+ghost use Rattle.results.specs.Built.{Built};
+ghost use Rattle.operations.specs.Operations.{sumOutcome, unaryLanguage, unaryOutcome, complementOutcome, mirrorOutcome};
 use operands::Pair;
 use record::Checked;
 use record::Written;
@@ -20,50 +21,10 @@ use rows::Machine;
 use rows::Row;
 use rows::Table;
 
-const MAX_STATES: usize = 32;
-
 // The operations on one record.
 pub enum Unary {
     Complement,
     Mirror,
-}
-
-// The minimal record of the automaton of t and m, or refusal 11 or 12; t is left with the rows of the minimal automaton.
-pub fn finish(t: &mut Table, m: Machine, out: &mut [u8]) -> Written
-    requires { ⌜ Valid (now t) m ⌝ }
-    ensures answer { λ r. ⌜ r ≡ answerOf (resultOf (m .letters) (automatonIn (now (t .entry)) m) (length (now (out .entry)))) ⌝ }
-    ensures buffer { λ _. ⌜ now (out .exit) ≡ bufferOf (resultOf (m .letters) (automatonIn (now (t .entry)) m) (length (now (out .entry)))) (now (out .entry)) ⌝ }
-{
-    let mut b = [0u64; 192];
-    let mut c = [0u64; 512];
-    let g = reduction::minimise(t, m, &mut b, &mut c);
-    let d = g.states;
-    if MAX_STATES < d {
-        return Written::Refused {
-            number: 11,
-            record: 0,
-            place: d,
-        };
-    }
-    codec::write(t, g, out)
-}
-
-// A refusal of the checks, as the answer of an operation.
-pub fn refuse(p: Pair) -> Written
-    ensures { λ r. ⌜ r ≡ refusedAs p ⌝ }
-{
-    match p {
-        Pair::Both => Written::Done { length: 0 },
-        Pair::Refused {
-            number,
-            record,
-            place,
-        } => Written::Refused {
-            number: number,
-            record: record,
-            place: place,
-        },
-    }
 }
 
 // A machine by its parts.
@@ -169,11 +130,11 @@ pub fn sum(first: &[u8], second: &[u8], out: &mut [u8]) -> Written
 {
     let p = operands::check_pair(first, second);
     let Pair::Both = p else {
-        return refuse(p);
+        return results::refuse(p);
     };
     let mut s = [0u64; 512];
     let m = add_records(first, second, &mut s);
-    finish(&mut s, m, out)
+    results::finish(&mut s, m, out)
 }
 
 // The automaton of an operation on a well-formed record, its rows in s.
@@ -201,7 +162,7 @@ fn operate(k: Unary, bytes: &[u8], out: &mut [u8]) -> Written
     };
     let mut s = [0u64; 512];
     let m = build(k, bytes, &mut s);
-    finish(&mut s, m, out)
+    results::finish(&mut s, m, out)
 }
 
 // Writes the minimal record of the words over the record's letters that it does not accept. `words`, `form`, `limits`: as for `sum`.

@@ -31,7 +31,8 @@ use Rattle.compare.specs.declared.Side.{Side}
 use Rattle.compare.specs.declared.Side.the-variants.{First, Second}
 use Rattle.compare.specs.declared.Compared.the-variants.{Differs}
 use Rattle.compare.proofs.CompareLaws.{outcome-word}
-use Rattle.operations.specs.Operations.{resultOf, sumOutcome, unaryOutcome}
+use Rattle.results.specs.Results.{resultOf}
+use Rattle.operations.specs.Operations.{sumOutcome, unaryOutcome}
 use Rattle.intersection.specs.Meet.{maxProduct, crossing, meetOutcome}
 use Rattle.samples.specs.Claims.{Task, minimal, sum, meet, inverse, mirror, lettersFor, Claim, accepted, rejected, paths, speaks, gives, differ}
 use Rattle.samples.specs.Answers.{automaton, outcomeOf, verdict, Returned}

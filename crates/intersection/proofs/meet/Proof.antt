@@ -12,7 +12,7 @@ use Rattle.reduction.specs.Tables.{Minimises}
 use Rattle.record.specs.Record.{lettersOf, automatonOf}
 use Rattle.record.specs.declared.Written.the-variants.{Refused}
 use Rattle.operands.proofs.PairLaws.{both-passed}
-use Rattle.operations.specs.Operations.{refusedAs, Operands}
+use Rattle.results.specs.Results.{refusedAs, Operands}
 use Rattle.intersection.proofs.MeetLaws.{meet-held, meet-refused, meet-over, within, meet-products, meet-service}
 use borrow.Author.Needs.{needs}
 use Rattle.intersection.proofs.meet.Statement.{statement}

@@ -4,7 +4,7 @@ use denote.Ref.{now}
 use lib.ListN.{length}
 use Rattle.automata.specs.Language.{intersection}
 use Rattle.record.specs.Record.{lettersOf, languageOf}
-use Rattle.operations.specs.Operations.{Operands}
+use Rattle.results.specs.Results.{Operands}
 use Rattle.intersection.specs.Meet.{maxProduct, meetOutcome, DimensionProduct, Small}
 use Rattle.nxa.proofs.Operations.{meet-reasoned, limits-told, operation-told}
 use borrow.Author.Needs.{needs}

@@ -3,7 +3,8 @@ use denote.Ref.{now}
 use lib.ListN.{length}
 use Rattle.automata.specs.Language.{symmetricDifference}
 use Rattle.record.specs.Record.{lettersOf, languageOf}
-use Rattle.operations.specs.Operations.{sumOutcome, Operands}
+use Rattle.results.specs.Results.{Operands}
+use Rattle.operations.specs.Operations.{sumOutcome}
 use Rattle.nxa.proofs.Operations.{sum-reasoned, operation-told}
 use borrow.Author.Needs.{needs}
 use Rattle.nxa.proofs.nxa_sum.Statement.{statement}

@@ -3,7 +3,7 @@ use mathlib.Core.Path.{sym, subst}
 use denote.Ref.{now}
 use Rattle.record.specs.Record.{lettersOf, languageOf}
 use Rattle.operations.specs.Operations.{unaryLanguage}
-use Rattle.operations.specs.Inner.{Built}
+use Rattle.results.specs.Built.{Built}
 use borrow.Author.Needs.{needs}
 use Rattle.operations.proofs.build.Statement.{statement}
 use Rattle.operations.proofs.build.Tie as tie

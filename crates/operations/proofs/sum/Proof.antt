@@ -3,7 +3,7 @@ use mathlib.Core.Path.{refl, sym, ap, _∙_}
 use denote.Ref.{now}
 use lib.ListN.{length}
 use Rattle.operands.proofs.PairLaws.{both-passed}
-use Rattle.operations.specs.Operations.{refusedAs, Operands}
+use Rattle.results.specs.Results.{refusedAs, Operands}
 use Rattle.operations.proofs.OperationLaws.{sum-refused, sum-service}
 use borrow.Author.Needs.{needs}
 use Rattle.operations.proofs.sum.Statement.{statement}

@@ -26,8 +26,8 @@ use Rattle.record.specs.declared.Written.{Written}
 use Rattle.record.specs.declared.Written.the-variants.{Done, Refused}
 use Rattle.record.proofs.Encode.{states-encode, letters-encode, check-encode, bits-encode, fields-encode}
 use Rattle.record.proofs.Outcome.{fit-wrote, outcome-take}
-use Rattle.operations.specs.Operations.{limited, resultOf, MinimalRecord, Limits}
-use Rattle.operations.specs.Inner.{Built}
+use Rattle.results.specs.Results.{limited, resultOf, MinimalRecord, Limits}
+use Rattle.results.specs.Built.{Built}
 
 -- ---- the minimal record of a language
 

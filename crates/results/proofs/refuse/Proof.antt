@@ -1,7 +1,7 @@
 -- `refuse`: case by case.
 use borrow.Author.Needs.{needs}
-use Rattle.operations.proofs.refuse.Statement.{statement}
-use Rattle.operations.proofs.refuse.Tie as tie
+use Rattle.results.proofs.refuse.Statement.{statement}
+use Rattle.results.proofs.refuse.Tie as tie
 
 enum-told : tie.Need-enum-told
 enum-told c = search needs

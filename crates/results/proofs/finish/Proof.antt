@@ -6,10 +6,10 @@ use lib.ListN.{length}
 use Rattle.rows.specs.Row.{mask}
 use Rattle.rows.specs.Machine.{automatonIn, Bounded}
 use Rattle.record.specs.Outcome.{answerOf, bufferOf}
-use Rattle.operations.proofs.ResultLaws.{result-over, result-within}
+use Rattle.results.proofs.ResultLaws.{result-over, result-within}
 use borrow.Author.Needs.{needs}
-use Rattle.operations.proofs.finish.Statement.{statement}
-use Rattle.operations.proofs.finish.Tie as tie
+use Rattle.results.proofs.finish.Statement.{statement}
+use Rattle.results.proofs.finish.Tie as tie
 
 minimise-requires : tie.Need-minimise-requires
 minimise-requires c κs = search needs

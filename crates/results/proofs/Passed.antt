@@ -1,0 +1,59 @@
+-- When the checks of two records have passed: where a service writes, or refuses and names neither of them.
+use mathlib.Core.Path.{_≡_, refl, ap, _∙_}
+use mathlib.Core.Bool.{Bool, true, false, cond}
+use mathlib.Core.List.{List}
+use Prim.Native.Nat.{ℕ, _≤_}
+use native.Mathlib.Omega.{arith}
+use lib.Dec.{eqb}
+use Rattle.record.specs.Record.{maxLetters, lettersOf, checkOf, WellFormed}
+use Rattle.record.specs.Outcome.{Outcome, refused, wrote}
+use Rattle.record.specs.declared.Checked.{Checked}
+use Rattle.record.specs.declared.Checked.the-variants.{Good, Refused as Wrong}
+use Rattle.record.proofs.Refusals.{good-check}
+use Rattle.operands.specs.Operands.{named, pairOf, afterPair}
+use Rattle.operands.specs.declared.Pair.{Pair}
+use Rattle.operands.specs.declared.Pair.the-variants.{Both, Refused as Bad}
+use Rattle.operands.proofs.PairLaws.{both-pass, both-passed}
+use Rattle.results.specs.Results.{Operands}
+
+-- The letters of a well-formed record.
+pub sizes : (bs : List ℕ) → WellFormed bs → (1 ≤ lettersOf bs) × (lettersOf bs ≤ maxLetters)
+sizes bs good = let f = good-check bs good .front in (f .some, f .letters)
+
+-- A refusal of the checks of two records names one of them.
+pair-named : (bs cs : List ℕ) (number place : ℕ) → pairOf bs cs ≡ Bad number 0 place → ⊥
+unfolding pairOf
+pair-named bs cs number place e = one (checkOf bs) e
+  where
+    three : (b : Bool) → cond b Both (Bad 8 2 6) ≡ Bad number 0 place → ⊥
+    three true q = let z : _≡_ {A = ℕ} 0 1 = cc in omega arith
+    three false q = let z : _≡_ {A = ℕ} 2 0 = cc in omega arith
+
+    two : (c : Checked) → named c 2 (cond (eqb (lettersOf bs) (lettersOf cs)) Both (Bad 8 2 6)) ≡ Bad number 0 place → ⊥
+    two Good q = three (eqb (lettersOf bs) (lettersOf cs)) q
+    two (Wrong n p) q = let z : _≡_ {A = ℕ} 2 0 = cc in omega arith
+
+    one : (c : Checked) → named c 1 (named (checkOf cs) 2 (cond (eqb (lettersOf bs) (lettersOf cs)) Both (Bad 8 2 6))) ≡ Bad number 0 place → ⊥
+    one Good q = two (checkOf cs) q
+    one (Wrong n p) q = let z : _≡_ {A = ℕ} 1 0 = cc in omega arith
+
+module _ (bs cs : List ℕ) (rest : Outcome) where
+  pub pair-wrote : (out : List ℕ) → afterPair (pairOf bs cs) rest ≡ wrote out → Operands bs cs
+  pair-wrote out e = both-passed bs cs (go (pairOf bs cs) e)
+    where
+      go : (p : Pair) → afterPair p rest ≡ wrote out → p ≡ Both
+      go Both q = refl
+      go (Bad number which place) q = let z : _≡_ {A = ℕ} 0 1 = cc in absurd (omega arith)
+
+  -- A refusal that names no record comes after the checks.
+  pub pair-refused : (number k : ℕ) → afterPair (pairOf bs cs) rest ≡ refused number 0 k → Operands bs cs
+  pair-refused number k e = both-passed bs cs (go (pairOf bs cs) refl e)
+    where
+      go : (p : Pair) → pairOf bs cs ≡ p → afterPair p rest ≡ refused number 0 k → p ≡ Both
+      go Both h q = refl
+      go (Bad n which place) h q =
+          let z : which ≡ 0 = cc in
+          absurd (pair-named bs cs n place (h ∙ ap (λ x. Bad n x place) z))
+
+  pub pair-passed : Operands bs cs → afterPair (pairOf bs cs) rest ≡ rest
+  pair-passed p = ap (λ x. afterPair x rest) (both-pass bs cs (p .0) (p .1) (p .2))

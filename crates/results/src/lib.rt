@@ -1,0 +1,50 @@
+// The common end of the operations: from an automaton in a table to the minimal record of its words, or refusal 11 or 12.
+ghost use mathlib.Core.Path.{_≡_};
+ghost use lib.ListN.{length};
+ghost use Rattle.rows.specs.Machine.{automatonIn, Valid};
+ghost use Rattle.record.specs.Outcome.{answerOf, bufferOf};
+ghost use Rattle.results.specs.Results.{resultOf, refusedAs};
+use operands::Pair;
+use record::Written;
+use rows::Machine;
+use rows::Table;
+
+const MAX_STATES: usize = 32;
+
+// The minimal record of the automaton of t and m, or refusal 11 or 12; t is left with the rows of the minimal automaton.
+pub fn finish(t: &mut Table, m: Machine, out: &mut [u8]) -> Written
+    requires { ⌜ Valid (now t) m ⌝ }
+    ensures answer { λ r. ⌜ r ≡ answerOf (resultOf (m .letters) (automatonIn (now (t .entry)) m) (length (now (out .entry)))) ⌝ }
+    ensures buffer { λ _. ⌜ now (out .exit) ≡ bufferOf (resultOf (m .letters) (automatonIn (now (t .entry)) m) (length (now (out .entry)))) (now (out .entry)) ⌝ }
+{
+    let mut b = [0u64; 192];
+    let mut c = [0u64; 512];
+    let g = reduction::minimise(t, m, &mut b, &mut c);
+    let d = g.states;
+    if MAX_STATES < d {
+        return Written::Refused {
+            number: 11,
+            record: 0,
+            place: d,
+        };
+    }
+    codec::write(t, g, out)
+}
+
+// A refusal of the checks, as the answer of an operation.
+pub fn refuse(p: Pair) -> Written
+    ensures { λ r. ⌜ r ≡ refusedAs p ⌝ }
+{
+    match p {
+        Pair::Both => Written::Done { length: 0 },
+        Pair::Refused {
+            number,
+            record,
+            place,
+        } => Written::Refused {
+            number: number,
+            record: record,
+            place: place,
+        },
+    }
+}
