@@ -5,4 +5,3 @@ pub mod Test
 pub mod Meaning
 pub mod Services
 pub mod Samples
-pub mod Calls

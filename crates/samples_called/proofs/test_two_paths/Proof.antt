@@ -2,10 +2,10 @@
 use mathlib.Core.Path.{_∙_}
 use borrow.Author.Needs.{needs}
 use Rattle.record.specs.Bytes.{bytesOf, allBytes}
 use Rattle.samples.specs.Table.{twoPaths, samples}
 use Rattle.samples.proofs.Samples.{samples-returned}
-use Rattle.samples.proofs.test_two_paths.Statement.{statement}
-use Rattle.samples.proofs.test_two_paths.Tie as tie
+use Rattle.samples_called.proofs.test_two_paths.Statement.{statement}
+use Rattle.samples_called.proofs.test_two_paths.Tie as tie
 
 slice-aggregate-test : tie.Need-slice-aggregate-test
 slice-aggregate-test c = search needs

@@ -7,11 +7,11 @@ use Rattle.record.specs.Bytes.{bytesOf, allBytes}
 use Rattle.record.specs.Outcome.{answerOf}
 use Rattle.record.proofs.Outcome.{fit-done}
 use Rattle.minimal.specs.Minimal.{minimisedAs}
 use Rattle.samples.specs.Table.{x12, x, samples}
 use Rattle.samples.proofs.Samples.{samples-returned}
-use Rattle.samples.proofs.Calls.{minimal-call}
-use Rattle.samples.proofs.minimal_of_x.Statement.{statement}
-use Rattle.samples.proofs.minimal_of_x.Tie as tie
+use Rattle.samples_called.proofs.Calls.{minimal-call}
+use Rattle.samples_called.proofs.minimal_of_x.Statement.{statement}
+use Rattle.samples_called.proofs.minimal_of_x.Tie as tie
 
 slice-aggregate-minimal : tie.Need-slice-aggregate-minimal
 slice-aggregate-minimal c = search needs

@@ -2,12 +2,12 @@
 use borrow.Author.Needs.{needs}
 use denote.Ref.{now}
 use Rattle.record.specs.Bytes.{bytesOf, allBytes}
 use Rattle.samples.specs.Claims.{sum}
 use Rattle.samples.specs.Table.{zeroStar, oneStar, starSum, samples}
 use Rattle.samples.proofs.Samples.{samples-returned}
-use Rattle.samples.proofs.Calls.{wrote-call}
-use Rattle.samples.proofs.sum_of_stars.Statement.{statement}
-use Rattle.samples.proofs.sum_of_stars.Tie as tie
+use Rattle.samples_called.proofs.Calls.{wrote-call}
+use Rattle.samples_called.proofs.sum_of_stars.Statement.{statement}
+use Rattle.samples_called.proofs.sum_of_stars.Tie as tie
 
 slice-aggregate-sum : tie.Need-slice-aggregate-sum
 slice-aggregate-sum c = search needs

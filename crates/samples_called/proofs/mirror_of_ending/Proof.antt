@@ -4,12 +4,12 @@ use denote.Ref.{now}
 use Rattle.record.specs.Bytes.{bytesOf, allBytes}
 use Rattle.record.specs.Record.{encode}
 use Rattle.catalogue.specs.Entries.{entryOf, lettersAt, recordOf}
 use Rattle.samples.specs.Claims.{mirror}
 use Rattle.samples.specs.Table.{firstOne, samples}
 use Rattle.samples.proofs.Samples.{samples-returned}
-use Rattle.samples.proofs.Calls.{wrote-call}
-use Rattle.samples.proofs.mirror_of_ending.Statement.{statement}
-use Rattle.samples.proofs.mirror_of_ending.Tie as tie
+use Rattle.samples_called.proofs.Calls.{wrote-call}
+use Rattle.samples_called.proofs.mirror_of_ending.Statement.{statement}
+use Rattle.samples_called.proofs.mirror_of_ending.Tie as tie
 
 slice-aggregate-mirror : tie.Need-slice-aggregate-mirror
 slice-aggregate-mirror c = search needs

@@ -7,10 +7,10 @@ use Rattle.record.specs.Bytes.{bytesOf, allBytes}
 use Rattle.record.specs.Record.{encode}
 use Rattle.record.specs.Outcome.{bufferOf}
 use Rattle.catalogue.specs.Entries.{entryOf, lettersAt, recordOf}
 use Rattle.samples.specs.Table.{x12, samples}
 use Rattle.samples.proofs.Samples.{samples-returned}
-use Rattle.samples.proofs.x_against_all.Statement.{statement}
-use Rattle.samples.proofs.x_against_all.Tie as tie
+use Rattle.samples_called.proofs.x_against_all.Statement.{statement}
+use Rattle.samples_called.proofs.x_against_all.Tie as tie
 
 slice-aggregate-compare : tie.Need-slice-aggregate-compare
 slice-aggregate-compare c = search needs

@@ -3,11 +3,11 @@ use borrow.Author.Needs.{needs}
 use denote.Ref.{now}
 use Rattle.record.specs.Bytes.{bytesOf, allBytes}
 use Rattle.catalogue.specs.Entries.{recordOf}
 use Rattle.samples.specs.Table.{cycle, samples}
 use Rattle.samples.proofs.Samples.{samples-returned}
-use Rattle.samples.proofs.Calls.{minimal-call}
-use Rattle.samples.proofs.minimal_of_cycle.Statement.{statement}
-use Rattle.samples.proofs.minimal_of_cycle.Tie as tie
+use Rattle.samples_called.proofs.Calls.{minimal-call}
+use Rattle.samples_called.proofs.minimal_of_cycle.Statement.{statement}
+use Rattle.samples_called.proofs.minimal_of_cycle.Tie as tie
 
 slice-aggregate-minimal : tie.Need-slice-aggregate-minimal
 slice-aggregate-minimal c = search needs

@@ -2,12 +2,12 @@
 use borrow.Author.Needs.{needs}
 use denote.Ref.{now}
 use Rattle.record.specs.Bytes.{bytesOf, allBytes}
 use Rattle.samples.specs.Claims.{inverse}
 use Rattle.samples.specs.Table.{noStates, oneState, samples}
 use Rattle.samples.proofs.Samples.{samples-returned}
-use Rattle.samples.proofs.Calls.{wrote-call}
-use Rattle.samples.proofs.complement_of_nothing.Statement.{statement}
-use Rattle.samples.proofs.complement_of_nothing.Tie as tie
+use Rattle.samples_called.proofs.Calls.{wrote-call}
+use Rattle.samples_called.proofs.complement_of_nothing.Statement.{statement}
+use Rattle.samples_called.proofs.complement_of_nothing.Tie as tie
 
 slice-aggregate-complement : tie.Need-slice-aggregate-complement
 slice-aggregate-complement c = search needs

@@ -3,12 +3,12 @@ use borrow.Author.Needs.{needs}
 use denote.Ref.{now}
 use Rattle.record.specs.Bytes.{bytesOf, allBytes}
 use Rattle.catalogue.specs.Entries.{recordOf}
 use Rattle.samples.specs.Claims.{meet}
 use Rattle.samples.specs.Table.{zeroStar, oneStar, samples}
 use Rattle.samples.proofs.Samples.{samples-returned}
-use Rattle.samples.proofs.Calls.{wrote-call}
-use Rattle.samples.proofs.meet_of_stars.Statement.{statement}
-use Rattle.samples.proofs.meet_of_stars.Tie as tie
+use Rattle.samples_called.proofs.Calls.{wrote-call}
+use Rattle.samples_called.proofs.meet_of_stars.Statement.{statement}
+use Rattle.samples_called.proofs.meet_of_stars.Tie as tie
 
 slice-aggregate-meet : tie.Need-slice-aggregate-meet
 slice-aggregate-meet c = search needs
