@@ -27,7 +27,7 @@ pub fn give(line: &[u8], n: usize, out: &mut [u8]) -> Written
 }
 
 // How the line of a record starts: its index, words, and a number.
-pub fn begin(line: &mut [u8], index: usize, words: &[u8], n: usize) -> usize
+fn begin(line: &mut [u8], index: usize, words: &[u8], n: usize) -> usize
     requires { ⌜ 40 + length (now words) ≤ length (now line) ⌝ }
     ensures { λ r. ⌜ Begun (now (line .entry)) (now (line .exit)) r (opening index (now (words .entry)) n) ⌝ }
 {
@@ -57,7 +57,7 @@ pub fn dim_line(line: &mut [u8], index: usize, words: &[u8], d: usize) -> usize
 }
 
 // Which record accepts the word, and the end of the line.
-pub fn put_side(line: &mut [u8], at: usize, side: Side) -> usize
+fn put_side(line: &mut [u8], at: usize, side: Side) -> usize
     requires { ⌜ at + 20 ≤ length (now line) ⌝ }
     ensures { λ r. ⌜ (r ≡ at + length (acceptedBy side)) × (now (line .exit) ≡ sets (now (line .entry)) at (acceptedBy side)) ⌝ }
 {

@@ -26,20 +26,22 @@ fn sample_9() {
     ask::complement(b"9: complement ", &only);
 }
 
+// Asks for the check of a record of n states over a letters with no bit set.
+fn ask_size(name: &[u8], bytes: &mut [u8], n: u8, a: u8) {
+    head(bytes, n, a);
+    ask::rewrite(name, bytes);
+}
+
 // 10. n = 32 passes, 33 is 4; a = 8 passes, 9 is 5.
 fn sample_10() {
     let mut b = [0u8; 143];
-    head(&mut b, 32, 1);
-    ask::rewrite(b"10: n = 32 ", &b);
+    ask_size(b"10: n = 32 ", &mut b, 32, 1);
     let mut c = [0u8; 147];
-    head(&mut c, 33, 1);
-    ask::rewrite(b"10: n = 33 ", &c);
+    ask_size(b"10: n = 33 ", &mut c, 33, 1);
     let mut d = [0u8; 1039];
-    head(&mut d, 32, 8);
-    ask::rewrite(b"10: n = 32, a = 8 ", &d);
+    ask_size(b"10: n = 32, a = 8 ", &mut d, 32, 8);
     let mut e = [0u8; 51];
-    head(&mut e, 1, 9);
-    ask::rewrite(b"10: a = 9 ", &e);
+    ask_size(b"10: a = 9 ", &mut e, 1, 9);
 }
 
 // 10. Only 0^7 met with only 0^7 has product 64 and passes.
