@@ -67,12 +67,12 @@ fn stage(t: &mut Table, l: usize, w: usize, b: usize)
     }
 }
 
-// The least w of which 2 ^ w is n or more.
+// The least w of which 2 ^ w is n or more, but at least 2.
 fn level(n: usize) -> usize
     requires { ⌜ n ≤ width ⌝ }
-    ensures { λ w. ⌜ (w ≤ levels) × (n ≤ 2 ^ w) ⌝ }
+    ensures { λ w. ⌜ (2 ≤ w) × (w ≤ levels) × (n ≤ 2 ^ w) ⌝ }
 {
-    let mut w: usize = 0;
+    let mut w: usize = 2;
     while power(w) < n {
         w += 1;
     }
@@ -93,16 +93,19 @@ fn clear(t: &mut Table, l: usize, n: usize, w: usize)
     }
 }
 
-// Transposes the matrix in block l, of 2 ^ w rows.
+// Transposes the matrix in block l, of 2 ^ w rows. Most runs are those of the last two stages, of one or two rows: there b is a
+// literal, so that the compiler makes no loop of a run.
 fn turn(t: &mut Table, l: usize, w: usize)
-    requires { ⌜ (l < blocks) × (w ≤ levels) × ((i : ℕ) → i < 2 ^ w → at (now t) l i < 2 ^ (2 ^ w)) × (length (now t) ≡ size) ⌝ }
+    requires { ⌜ (l < blocks) × (2 ≤ w) × (w ≤ levels) × ((i : ℕ) → i < 2 ^ w → at (now t) l i < 2 ^ (2 ^ w)) × (length (now t) ≡ size) ⌝ }
     ensures { λ r. ⌜ OnlyBlock l (now (t .entry)) (now (t .exit)) × HasRows l (2 ^ w) (λ i k. padded (2 ^ w) (row (now (t .entry)) l) k i) (now (t .exit)) ⌝ }
 {
     let mut b = w;
-    while b > 0 {
+    while b > 2 {
         b -= 1;
         stage(t, l, w, b);
     }
+    stage(t, l, w, 1);
+    stage(t, l, w, 0);
 }
 
 // Transposes the n by n matrices in the first a blocks, in place.
