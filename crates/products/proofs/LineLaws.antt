@@ -12,13 +12,11 @@ use Rattle.automata.proofs.Below.{up-to}
 use Rattle.rows.specs.Table.{blocks}
 use Rattle.rows.specs.Product.{product}
 use Rattle.rows.specs.Beside.{beside}
-use Rattle.rows.proofs.ProductLaws.{product-lt}
 use Rattle.kernels.proofs.LineLaws.{line-step}
 use Rattle.rows.proofs.BesideLaws.{product-beside}
 use Rattle.record.specs.Record.{statesOf, lettersOf, rowAt, WellFormed}
-use Rattle.record.proofs.Refusals.{good-check}
-use Rattle.record.proofs.Encode.{row-below}
 use Rattle.products.specs.Lines.{Upto, Letters, Both}
+use Rattle.products.proofs.PairLaws.{product-below}
 
 -- ---- letter by letter
 
@@ -52,10 +50,8 @@ merged-step l n s₀ t s {v = v} h ea eb ec ev e m = rw (e, add-one) (record {
 
 -- ---- two records
 
--- A product with a matrix of a record has no bit at its number of states or above.
 pub entry-lt : (bs : List ℕ) (x : ℕ) (s : List ℕ) → WellFormed bs → Letters bs x s → (l : ℕ) → l < lettersOf bs → getD s l 0 < 2 ^ statesOf bs
-entry-lt bs x s good u l h =
-    rw (u .1 l h) (product-lt (statesOf bs) (statesOf bs) x (rowAt bs l) (λ i z. row-below bs (good-check bs good) l i h z))
+entry-lt bs x s good u l h = product-below bs good l x (getD s l 0) h (u .1 l h)
 
 -- The products of both parts of a row, merged.
 pub both-merged : (bs cs : List ℕ) (x n l : ℕ) {h y : ℕ} (s₀ t s : List ℕ) → lettersOf cs ≡ lettersOf bs → n ≡ statesOf bs → l ≡ lettersOf bs

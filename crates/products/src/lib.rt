@@ -155,6 +155,20 @@ fn times_pair(first: &[u8], second: &[u8], l: usize, x: Row) -> Row
     rows::xor(y, rows::moved(z, n))
 }
 
+// The row x times the matrices of both letters of two records side by side, into a line.
+fn times_two_both(first: &[u8], second: &[u8], x: Row, s: &mut Line)
+    requires { ⌜ WellFormed (now first) × WellFormed (now second) × (lettersOf (now second) ≡ lettersOf (now first)) × (lettersOf (now first) ≡ 2) × (mask x < 2 ^ (statesOf (now first) + statesOf (now second))) × (length (now s) ≡ blocks) ⌝ }
+    ensures { λ _. ⌜ Both (now (first .entry)) (now (second .entry)) (mask x) (now (s .exit)) ⌝ }
+{
+    let n = record::size(first[5]);
+    let h = rows::lowered(x, n);
+    let low = rows::xor(x, rows::moved(h, n));
+    let y = times_two(first, 0, low);
+    let z = times_two(second, 0, h);
+    kernels::put(s, 0, rows::xor(y.first, rows::moved(z.first, n)));
+    kernels::put(s, 1, rows::xor(y.second, rows::moved(z.second, n)));
+}
+
 // The row x times the matrix of every letter of two records side by side, into a line: a line for each, then both merged.
 fn times_lines(first: &[u8], second: &[u8], x: Row, s: &mut Line)
     requires { ⌜ WellFormed (now first) × WellFormed (now second) × (lettersOf (now second) ≡ lettersOf (now first)) × (mask x < 2 ^ (statesOf (now first) + statesOf (now second))) × (length (now s) ≡ blocks) ⌝ }
@@ -176,13 +190,18 @@ fn times_lines(first: &[u8], second: &[u8], x: Row, s: &mut Line)
     }
 }
 
-// The same; over one letter there is no line to merge.
+// The same; over one letter or two there are no lines to merge.
 pub fn times_both(first: &[u8], second: &[u8], x: Row, s: &mut Line)
     requires { ⌜ WellFormed (now first) × WellFormed (now second) × (lettersOf (now second) ≡ lettersOf (now first)) × (mask x < 2 ^ (statesOf (now first) + statesOf (now second))) × (length (now s) ≡ blocks) ⌝ }
     ensures { λ _. ⌜ Both (now (first .entry)) (now (second .entry)) (mask x) (now (s .exit)) ⌝ }
 {
-    if record::size(first[6]) == 1 {
+    let a = record::size(first[6]);
+    if a == 1 {
         kernels::put(s, 0, times_pair(first, second, 0, x));
+        return;
+    }
+    if a == 2 {
+        times_two_both(first, second, x, s);
         return;
     }
     times_lines(first, second, x, s);

@@ -1,4 +1,4 @@
--- `times_both`: one letter by itself, or every letter by lines.
+-- `times_both`: one letter or two by themselves, or every letter by lines.
 use mathlib.Core.Path.{_≡_, sym, _∙_}
 use denote.Ref.{now}
 use Prim.Native.Nat.{_+_, _<_}
@@ -37,11 +37,19 @@ returns c =
     let one : lettersOf bs ≡ 1 = sym (c .before .before .before .before .size .ensures .0) ∙ c .before .before .before .if1 .taken in
     upto-step 0 (lettersOf bs) M n (mask (a .x)) (a .s .now) one (omega arith) (c .before .times-pair .ensures) (c .put .ensures) (upto-none M n (mask (a .x)) (a .s .now) (s .pre .4))
 
+times-two-both-requires : tie.Need-times-two-both-requires
+times-two-both-requires c κs =
+    let p = c .before .before .before .before .before .before .before .pre in
+    (p .0, p .1, p .2, sym (c .before .before .before .size .ensures .0) ∙ c .before .if2 .taken, p .3, p .4)
+
+returns-2 : tie.Need-returns-2
+returns-2 c = c .times-two-both .ensures
+
 times-lines-requires : tie.Need-times-lines-requires
 times-lines-requires c κs = search needs
 
-returns-2 : tie.Need-returns-2
-returns-2 c = c .times-lines .ensures
+returns-3 : tie.Need-returns-3
+returns-3 c = c .times-lines .ensures
 
 pub times-both-spec : {M : Type 1} → statement M
 times-both-spec =
@@ -52,5 +60,7 @@ times-both-spec =
     times-pair-requires
     put-requires
     returns
+    times-two-both-requires
+    returns-2
     times-lines-requires
-    returns-2)
+    returns-3)
