@@ -67,12 +67,29 @@ fn stage(t: &mut Table, l: usize, w: usize, b: usize)
     }
 }
 
-// The least w of which 2 ^ w is n or more, but at least 2.
+// Stage b. Most runs are those of stages 0 to 2, of four rows at most: there b is a literal, so that the compiler makes no loop of
+// a run.
+fn exchange(t: &mut Table, l: usize, w: usize, b: usize)
+    requires { ⌜ (l < blocks) × (w ≤ levels) × (b < w) × (length (now t) ≡ size) ⌝ }
+    ensures { λ z. ⌜ OnlyBlock l (now (t .entry)) (now (t .exit)) × HasRows l (2 ^ w) (exchanged b (row (now (t .entry)) l)) (now (t .exit)) ⌝ }
+{
+    if b == 0 {
+        stage(t, l, w, 0);
+    } else if b == 1 {
+        stage(t, l, w, 1);
+    } else if b == 2 {
+        stage(t, l, w, 2);
+    } else {
+        stage(t, l, w, b);
+    }
+}
+
+// The least w of which 2 ^ w is n or more.
 fn level(n: usize) -> usize
     requires { ⌜ n ≤ width ⌝ }
-    ensures { λ w. ⌜ (2 ≤ w) × (w ≤ levels) × (n ≤ 2 ^ w) ⌝ }
+    ensures { λ w. ⌜ (w ≤ levels) × (n ≤ 2 ^ w) ⌝ }
 {
-    let mut w: usize = 2;
+    let mut w: usize = 0;
     while power(w) < n {
         w += 1;
     }
@@ -93,19 +110,16 @@ fn clear(t: &mut Table, l: usize, n: usize, w: usize)
     }
 }
 
-// Transposes the matrix in block l, of 2 ^ w rows. Most runs are those of the last two stages, of one or two rows: there b is a
-// literal, so that the compiler makes no loop of a run.
+// Transposes the matrix in block l, of 2 ^ w rows.
 fn turn(t: &mut Table, l: usize, w: usize)
-    requires { ⌜ (l < blocks) × (2 ≤ w) × (w ≤ levels) × ((i : ℕ) → i < 2 ^ w → at (now t) l i < 2 ^ (2 ^ w)) × (length (now t) ≡ size) ⌝ }
+    requires { ⌜ (l < blocks) × (w ≤ levels) × ((i : ℕ) → i < 2 ^ w → at (now t) l i < 2 ^ (2 ^ w)) × (length (now t) ≡ size) ⌝ }
     ensures { λ r. ⌜ OnlyBlock l (now (t .entry)) (now (t .exit)) × HasRows l (2 ^ w) (λ i k. padded (2 ^ w) (row (now (t .entry)) l) k i) (now (t .exit)) ⌝ }
 {
     let mut b = w;
-    while b > 2 {
+    while b > 0 {
         b -= 1;
-        stage(t, l, w, b);
+        exchange(t, l, w, b);
     }
-    stage(t, l, w, 1);
-    stage(t, l, w, 0);
 }
 
 // Transposes the n by n matrices in the first a blocks, in place.

@@ -8,7 +8,7 @@ use Rattle.transpose.proofs.level.Statement.{statement}
 use Rattle.transpose.proofs.level.Tie as tie
 
 abbrev Inv-loop : tie.InvT-loop
-Inv-loop n w₀ w = (2 ≤ w) × (w ≤ levels)
+Inv-loop n w₀ w = w ≤ levels
 
 abbrev μ-loop : tie.MeasureT-loop
 μ-loop n w₀ w = levels - w

@@ -25,7 +25,7 @@ clear-requires : tie.Need-clear-requires Inv-loop μ-loop
 clear-requires c κs =
     let g = c .before .before in
     let w = g .before .level .ensures in
-    (omega arith, w .1, w .2, g .loop .inv .1 .done .size)
+    (omega arith, w .0, w .1, g .loop .inv .1 .done .size)
 
 turn-requires : tie.Need-turn-requires Inv-loop μ-loop
 turn-requires c κs =
@@ -37,8 +37,7 @@ turn-requires c κs =
     let v = g .loop in (
       omega arith,
       w .ensures .0,
-      w .ensures .1,
-      cleared-lt (v .l) (a .n) (2 ^ w .result) (v .t) (k .clear .last .0) (w .ensures .2) (turning-low (a .a) (v .l) (a .n) (a .t .now) (v .t) (omega arith) (s .pre .1) (s .pre .2) (v .inv .1)) (k .clear .ensures .1),
+      cleared-lt (v .l) (a .n) (2 ^ w .result) (v .t) (k .clear .last .0) (w .ensures .1) (turning-low (a .a) (v .l) (a .n) (a .t .now) (v .t) (omega arith) (s .pre .1) (s .pre .2) (v .inv .1)) (k .clear .ensures .1),
       k .clear .ensures .0 .size,
     )
 
@@ -56,7 +55,7 @@ loop-again c =
     let a = s .args in
     let w = g .before .level in
     let v = g .loop in
-    (omega arith, turning-step (v .l) (a .n) (w .result) (a .t .now) (v .t) (k .clear .last .0) (c .turn .last .0) (s .pre .1) (w .ensures .1) (w .ensures .2) (k .clear .ensures) (c .turn .ensures) (v .inv .1))
+    (omega arith, turning-step (v .l) (a .n) (w .result) (a .t .now) (v .t) (k .clear .last .0) (c .turn .last .0) (s .pre .1) (w .ensures .0) (w .ensures .1) (k .clear .ensures) (c .turn .ensures) (v .inv .1))
 
 returns : tie.Need-returns Inv-loop μ-loop
 returns c =
