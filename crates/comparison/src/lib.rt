@@ -6,7 +6,7 @@ ghost use Prim.Native.Nat.{_+_, _<_};
 ghost use lib.ListN.{length};
 ghost use Rattle.rows.specs.Row.{mask};
 ghost use Rattle.rows.specs.Table.{at};
-ghost use Rattle.kernels.specs.Products.{Products};
+ghost use Rattle.rows.specs.Product.{product};
 ghost use Rattle.basis.specs.Basis.{basisSize};
 ghost use Rattle.trail.specs.Trail.{trailSize};
 ghost use Rattle.record.specs.Record.{lettersOf, WellFormed, automatonOf};
@@ -15,10 +15,10 @@ ghost use Rattle.comparison.specs.Hunt.{shared, Hunting, Hunted, Ended};
 ghost use Rattle.comparison.specs.Judged.{Judged};
 use basis::Basis;
 use elimination::Size;
-use kernels::Line;
 use record::FINAL_AT;
 use record::INITIAL_AT;
 use rows::Machine;
+use rows::Row;
 use trail::Trail;
 
 // What the search for an accepted row has come to: the rows found so far, none of them accepted, or the first accepted row.
@@ -27,37 +27,36 @@ pub enum Hunt {
     Found(usize),
 }
 
-// Row k by letter l, which stands in the line y; a new row that the final column accepts ends the search.
+// Row k by letter l, whose product is y; a new row that the final column accepts ends the search.
 fn try_pair(
     first: &[u8],
     second: &[u8],
     m: Machine,
     b: &mut Basis,
     w: &mut Trail,
-    y: &Line,
+    y: Row,
     s: Size,
     k: usize,
     l: usize,
 ) -> Hunt
-    requires { ⌜ Paired (now first) (now second) m × Hunting (m .letters) (besideOf (now first) (now second)) (m .states) (mask (m .initial)) (mask (m .finals)) (now b) (now w) (s .count) k l (mask (s .pivots)) (mask (s .used)) × (k < s .count) × (l < m .letters) × Products (m .letters) (m .states) (at (now b) 1 k) (besideOf (now first) (now second)) (now y) ⌝ }
+    requires { ⌜ Paired (now first) (now second) m × Hunting (m .letters) (besideOf (now first) (now second)) (m .states) (mask (m .initial)) (mask (m .finals)) (now b) (now w) (s .count) k l (mask (s .pivots)) (mask (s .used)) × (k < s .count) × (l < m .letters) × (mask y ≡ product (m .states) (at (now b) 1 k) (besideOf (now first) (now second) l)) ⌝ }
     ensures { λ r. ⌜ Hunted (m .letters) (besideOf (now (first .entry)) (now (second .entry))) (m .states) (mask (m .initial)) (mask (m .finals)) (now (b .exit)) (now (w .exit)) (s .count) k (l + 1) r × (at (now (b .exit)) 1 k ≡ at (now (b .entry)) 1 k) ⌝ }
 {
     let d = s.count;
     let f = m.finals;
-    let x = kernels::pick(y, l);
-    let next = elimination::insert(b, m.states, s, x);
+    let next = elimination::insert(b, m.states, s, y);
     if next.count <= d {
         return Hunt::Going(next);
     }
     trail::link(w, d, k, l);
-    if rows::parity(x, f) {
+    if rows::parity(y, f) {
         return Hunt::Found(d);
     }
     Hunt::Going(next)
 }
 
-// Row k by every letter.
-fn try_row(
+// Row k by every letter, the products in a line.
+fn try_letters(
     first: &[u8],
     second: &[u8],
     m: Machine,
@@ -76,7 +75,8 @@ fn try_row(
     let mut r = s;
     let mut l: usize = 0;
     while l < a {
-        let h = try_pair(first, second, m, b, w, &y, r, k, l);
+        let z = kernels::pick(&y, l);
+        let h = try_pair(first, second, m, b, w, z, r, k, l);
         let Hunt::Going(next) = h else {
             return h;
         };
@@ -84,6 +84,28 @@ fn try_row(
         l += 1;
     }
     Hunt::Going(r)
+}
+
+// Row k by every letter. Over one letter there is no line.
+fn try_row(
+    first: &[u8],
+    second: &[u8],
+    m: Machine,
+    b: &mut Basis,
+    w: &mut Trail,
+    s: Size,
+    k: usize,
+) -> Hunt
+    requires { ⌜ Paired (now first) (now second) m × Hunting (m .letters) (besideOf (now first) (now second)) (m .states) (mask (m .initial)) (mask (m .finals)) (now b) (now w) (s .count) k 0 (mask (s .pivots)) (mask (s .used)) × (k < s .count) ⌝ }
+    ensures { λ r. ⌜ Hunted (m .letters) (besideOf (now (first .entry)) (now (second .entry))) (m .states) (mask (m .initial)) (mask (m .finals)) (now (b .exit)) (now (w .exit)) (s .count) (k + 1) 0 r ⌝ }
+{
+    let a = m.letters;
+    if a == 1 {
+        let x = basis::get(b, 1, k);
+        let y = products::times_pair(first, second, 0, x);
+        return try_pair(first, second, m, b, w, y, s, k, 0);
+    }
+    try_letters(first, second, m, b, w, s, k)
 }
 
 // Every row by every letter, until a row is accepted.

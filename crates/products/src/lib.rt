@@ -143,7 +143,7 @@ pub fn times_all(bytes: &[u8], x: Row, s: &mut Line)
 }
 
 // The row x times the matrix of letter l of two records side by side.
-fn times_pair(first: &[u8], second: &[u8], l: usize, x: Row) -> Row
+pub fn times_pair(first: &[u8], second: &[u8], l: usize, x: Row) -> Row
     requires { ⌜ WellFormed (now first) × WellFormed (now second) × (lettersOf (now second) ≡ lettersOf (now first)) × (l < lettersOf (now first)) × (mask x < 2 ^ (statesOf (now first) + statesOf (now second))) ⌝ }
     ensures { λ r. ⌜ mask r ≡ product (statesOf (now (first .entry)) + statesOf (now (second .entry))) (mask x) (beside (rowAt (now (first .entry))) (rowAt (now (second .entry))) (statesOf (now (first .entry))) l) ⌝ }
 {
@@ -190,16 +190,12 @@ fn times_lines(first: &[u8], second: &[u8], x: Row, s: &mut Line)
     }
 }
 
-// The same; over one letter or two there are no lines to merge.
+// The same; over two letters there are no lines to merge.
 pub fn times_both(first: &[u8], second: &[u8], x: Row, s: &mut Line)
     requires { ⌜ WellFormed (now first) × WellFormed (now second) × (lettersOf (now second) ≡ lettersOf (now first)) × (mask x < 2 ^ (statesOf (now first) + statesOf (now second))) × (length (now s) ≡ blocks) ⌝ }
     ensures { λ _. ⌜ Both (now (first .entry)) (now (second .entry)) (mask x) (now (s .exit)) ⌝ }
 {
     let a = record::size(first[6]);
-    if a == 1 {
-        kernels::put(s, 0, times_pair(first, second, 0, x));
-        return;
-    }
     if a == 2 {
         times_two_both(first, second, x, s);
         return;

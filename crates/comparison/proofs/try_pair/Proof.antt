@@ -1,116 +1,97 @@
 -- `try_pair`: an old row changes nothing; a new one is accepted, and ends the search, or is not.
 use mathlib.Core.Path.{_≡_, sym, subst, _∙_}
-use mathlib.Core.Bool.{Bool}
 use Prim.Native.Nat.{_^_, _<_}
 use native.Mathlib.Omega.{arith}
 use denote.Ref.{now}
-use Rattle.rows.specs.Row.{width, mask}
+use Rattle.rows.specs.Row.{mask}
 use Rattle.rows.specs.Table.{at}
-use Rattle.rows.specs.Product.{product}
 use Rattle.rows.proofs.ProductLaws.{product-lt}
-use Rattle.reduction.proofs.TableSearch.{count-bound}
 use Rattle.comparison.specs.Both.{besideOf}
-use Rattle.comparison.proofs.BothLaws.{paired-sizes, paired-rows}
 use Rattle.comparison.specs.Hunt.{shared}
+use Rattle.comparison.proofs.BothLaws.{paired-sizes, paired-rows}
 use Rattle.comparison.proofs.HuntLaws.{row-kept, hunting-old, new-below, hunting-new, stopped-new}
 use borrow.Author.Needs.{needs}
 use Rattle.comparison.proofs.try_pair.Statement.{statement}
 use Rattle.comparison.proofs.try_pair.Tie as tie
 
--- What stands in the line is the product, as short as the rows of the two.
-made : (c : tie.After-pick) → mask (c .pick .result) ≡ product (c .before .before .before .before .args .m .states) (at (c .before .before .before .before .args .b .now) 1 (c .before .before .before .before .args .k)) (besideOf (now (c .before .before .before .before .args .first)) (now (c .before .before .before .before .args .second)) (c .before .before .before .before .args .l))
-made c =
-    let s = c .before .before .before .before in
-    c .pick .ensures ∙ s .pre .4 (s .args .l) (s .pre .3)
-
-short : (c : tie.After-pick) → mask (c .pick .result) < 2 ^ c .before .before .before .before .args .m .states
-short c =
-    let s = c .before .before .before .before in
+-- The product is as short as the rows of the two.
+short : (s : tie.Start) → mask (s .args .y) < 2 ^ s .args .m .states
+short s =
     let a = s .args in
     let n = a .m .states in
     let bs = now (a .first) in
     let cs = now (a .second) in
-    subst (λ y. y < 2 ^ n) (sym (made c)) (product-lt n n (at (a .b .now) 1 (a .k)) (besideOf bs cs (a .l)) (λ i h. paired-rows bs cs (a .m) (s .pre .0) (a .l) i (s .pre .3) h))
-
-pick-requires : tie.Need-pick-requires
-pick-requires c κs =
-    let s = c .before .before .before in
-    let a = s .args in
-    omega (arith, paired-sizes (now (a .first)) (now (a .second)) (a .m) (s .pre .0) .2, s .pre .3)
+    subst (λ y. y < 2 ^ n) (sym (s .pre .4)) (product-lt n n (at (a .b .now) 1 (a .k)) (besideOf bs cs (a .l)) (λ i h. paired-rows bs cs (a .m) (s .pre .0) (a .l) i (s .pre .3) h))
 
 insert-requires : tie.Need-insert-requires
 insert-requires c κs =
-    let s = c .before .before .before .before .before in
+    let s = c .before .before .before .before in
     let a = s .args in
     let H = s .pre .1 in
-    (paired-sizes (now (a .first)) (now (a .second)) (a .m) (s .pre .0) .1, H .base, short (c .before), (H .coef, H .search .basis), H .cover)
+    (paired-sizes (now (a .first)) (now (a .second)) (a .m) (s .pre .0) .1, H .base, short s, (H .coef, H .search .basis), H .cover)
 
 returns : tie.Need-returns
 returns c =
-    let s = c .before .before .before .before .before .before .before .before in
+    let s = c .before .before .before .before .before .before .before in
     let a = s .args in
     let m = a .m in
     let bs = now (a .first) in
     let cs = now (a .second) in
     let hn = paired-sizes bs cs m (s .pre .0) .1 in
     let q = c .before .before .insert in
-    let r = q .result in
-    let y = mask (c .before .before .before .before .pick .result) in (
-      hunting-old (m .letters) (besideOf bs cs) (m .states) (mask (m .initial)) (mask (m .finals)) hn (a .b .now) (a .w .now) (a .s .count) (a .k) (a .l) (mask (a .s .pivots)) (mask (a .s .used)) (s .pre .1) (s .pre .2) (s .pre .3) y (made (c .before .before .before .before)) (q .last .0) (r .count) (mask (r .pivots)) (mask (r .used)) (q .ensures) (omega arith),
-      row-kept (m .letters) (besideOf bs cs) (m .states) (mask (m .initial)) (mask (m .finals)) hn (a .b .now) (a .w .now) (a .s .count) (a .k) (a .l) (mask (a .s .pivots)) (mask (a .s .used)) (s .pre .1) (s .pre .2) (s .pre .3) y (made (c .before .before .before .before)) (q .last .0) (r .count) (mask (r .pivots)) (mask (r .used)) (q .ensures) (a .k) (s .pre .2),
+    let r = q .result in (
+      hunting-old (m .letters) (besideOf bs cs) (m .states) (mask (m .initial)) (mask (m .finals)) hn (a .b .now) (a .w .now) (a .s .count) (a .k) (a .l) (mask (a .s .pivots)) (mask (a .s .used)) (s .pre .1) (s .pre .2) (s .pre .3) (mask (a .y)) (s .pre .4) (q .last .0) (r .count) (mask (r .pivots)) (mask (r .used)) (q .ensures) (omega arith),
+      row-kept (m .letters) (besideOf bs cs) (m .states) (mask (m .initial)) (mask (m .finals)) hn (a .b .now) (a .w .now) (a .s .count) (a .k) (a .l) (mask (a .s .pivots)) (mask (a .s .used)) (s .pre .1) (s .pre .2) (s .pre .3) (mask (a .y)) (s .pre .4) (q .last .0) (r .count) (mask (r .pivots)) (mask (r .used)) (q .ensures) (a .k) (s .pre .2),
     )
 
 link-requires : tie.Need-link-requires
 link-requires c κs =
-    let s = c .before .before .before .before .before .before .before .before .before in
+    let s = c .before .before .before .before .before .before .before .before in
     let a = s .args in
     let m = a .m in
     let bs = now (a .first) in
     let cs = now (a .second) in
     let z = paired-sizes bs cs m (s .pre .0) in
-    let H = s .pre .1 in
     let q = c .before .before .before .insert in
     let r = q .result in
-    let d = new-below (m .letters) (besideOf bs cs) (m .states) (mask (m .initial)) (mask (m .finals)) (z .1) (a .b .now) (a .w .now) (a .s .count) (a .k) (a .l) (mask (a .s .pivots)) (mask (a .s .used)) H (s .pre .2) (s .pre .3) (mask (c .before .before .before .before .before .pick .result)) (made (c .before .before .before .before .before)) (q .last .0) (r .count) (mask (r .pivots)) (mask (r .used)) (q .ensures) (omega (arith, c .before .if1 .left)) in
+    let d = new-below (m .letters) (besideOf bs cs) (m .states) (mask (m .initial)) (mask (m .finals)) (z .1) (a .b .now) (a .w .now) (a .s .count) (a .k) (a .l) (mask (a .s .pivots)) (mask (a .s .used)) (s .pre .1) (s .pre .2) (s .pre .3) (mask (a .y)) (s .pre .4) (q .last .0) (r .count) (mask (r .pivots)) (mask (r .used)) (q .ensures) (omega (arith, c .before .if1 .left)) in
     (d, omega (arith, s .pre .2), omega (arith, z .2, s .pre .3))
 
 parity-requires : tie.Need-parity-requires
 parity-requires c κs = search needs
 
 -- The parity says whether the new row is accepted.
-told : (c : tie.After-parity) → c .parity .result ≡ shared (c .before .before .before .before .before .before .before .before .before .before .before .args .m .states) (mask (c .before .before .before .before .before .before .before .pick .result)) (mask (c .before .before .before .before .before .before .before .before .before .before .before .args .m .finals))
-told c = c .parity .ensures (c .before .before .before .before .before .before .before .before .before .before .before .args .m .states) (short (c .before .before .before .before .before .before .before))
+told : (c : tie.After-parity) → c .parity .result ≡ shared (c .before .before .before .before .before .before .before .before .before .before .args .m .states) (mask (c .before .before .before .before .before .before .before .before .before .before .args .y)) (mask (c .before .before .before .before .before .before .before .before .before .before .args .m .finals))
+told c = c .parity .ensures (c .before .before .before .before .before .before .before .before .before .before .args .m .states) (short (c .before .before .before .before .before .before .before .before .before .before))
 
 returns-2 : tie.Need-returns-2
 returns-2 c =
-    let s = c .before .before .before .before .before .before .before .before .before .before .before .before in
+    let s = c .before .before .before .before .before .before .before .before .before .before .before in
     let a = s .args in
     let m = a .m in
     let bs = now (a .first) in
     let cs = now (a .second) in
     let hn = paired-sizes bs cs m (s .pre .0) .1 in
     let q = c .before .before .before .before .before .before .insert in
-    let r = q .result in
-    let y = mask (c .before .before .before .before .before .before .before .before .pick .result) in (
-      rw (c .before .before .link .ensures) (stopped-new (m .letters) (besideOf bs cs) (m .states) (mask (m .initial)) (mask (m .finals)) hn (a .b .now) (a .w .now) (a .s .count) (a .k) (a .l) (mask (a .s .pivots)) (mask (a .s .used)) (s .pre .1) (s .pre .2) (s .pre .3) y (made (c .before .before .before .before .before .before .before .before)) (q .last .0) (r .count) (mask (r .pivots)) (mask (r .used)) (q .ensures) (omega (arith, c .before .before .before .before .if1 .left)) (sym (told (c .before)) ∙ c .if2 .taken)),
-      row-kept (m .letters) (besideOf bs cs) (m .states) (mask (m .initial)) (mask (m .finals)) hn (a .b .now) (a .w .now) (a .s .count) (a .k) (a .l) (mask (a .s .pivots)) (mask (a .s .used)) (s .pre .1) (s .pre .2) (s .pre .3) y (made (c .before .before .before .before .before .before .before .before)) (q .last .0) (r .count) (mask (r .pivots)) (mask (r .used)) (q .ensures) (a .k) (s .pre .2),
+    let r = q .result in (
+      rw (c .before .before .link .ensures) (stopped-new (m .letters) (besideOf bs cs) (m .states) (mask (m .initial)) (mask (m .finals)) hn (a .b .now) (a .w .now) (a .s .count) (a .k) (a .l) (mask (a .s .pivots)) (mask (a .s .used)) (s .pre .1) (s .pre .2) (s .pre .3) (mask (a .y)) (s .pre .4) (q .last .0) (r .count) (mask (r .pivots)) (mask (r .used)) (q .ensures) (omega (arith, c .before .before .before .before .if1 .left)) (sym (told (c .before)) ∙ c .if2 .taken)),
+      row-kept (m .letters) (besideOf bs cs) (m .states) (mask (m .initial)) (mask (m .finals)) hn (a .b .now) (a .w .now) (a .s .count) (a .k) (a .l) (mask (a .s .pivots)) (mask (a .s .used)) (s .pre .1) (s .pre .2) (s .pre .3) (mask (a .y)) (s .pre .4) (q .last .0) (r .count) (mask (r .pivots)) (mask (r .used)) (q .ensures) (a .k) (s .pre .2),
     )
 
 returns-3 : tie.Need-returns-3
 returns-3 c =
-    let s = c .before .before .before .before .before .before .before .before .before .before .before .before in
+    let s = c .before .before .before .before .before .before .before .before .before .before .before in
     let a = s .args in
     let m = a .m in
     let bs = now (a .first) in
     let cs = now (a .second) in
     let hn = paired-sizes bs cs m (s .pre .0) .1 in
     let q = c .before .before .before .before .before .before .insert in
-    let r = q .result in
-    let y = mask (c .before .before .before .before .before .before .before .before .pick .result) in (
-      rw (c .before .before .link .ensures) (hunting-new (m .letters) (besideOf bs cs) (m .states) (mask (m .initial)) (mask (m .finals)) hn (a .b .now) (a .w .now) (a .s .count) (a .k) (a .l) (mask (a .s .pivots)) (mask (a .s .used)) (s .pre .1) (s .pre .2) (s .pre .3) y (made (c .before .before .before .before .before .before .before .before)) (q .last .0) (r .count) (mask (r .pivots)) (mask (r .used)) (q .ensures) (omega (arith, c .before .before .before .before .if1 .left)) (sym (told (c .before)) ∙ c .if2 .left)),
-      row-kept (m .letters) (besideOf bs cs) (m .states) (mask (m .initial)) (mask (m .finals)) hn (a .b .now) (a .w .now) (a .s .count) (a .k) (a .l) (mask (a .s .pivots)) (mask (a .s .used)) (s .pre .1) (s .pre .2) (s .pre .3) y (made (c .before .before .before .before .before .before .before .before)) (q .last .0) (r .count) (mask (r .pivots)) (mask (r .used)) (q .ensures) (a .k) (s .pre .2),
+    let r = q .result in (
+      rw (c .before .before .link .ensures) (hunting-new (m .letters) (besideOf bs cs) (m .states) (mask (m .initial)) (mask (m .finals)) hn (a .b .now) (a .w .now) (a .s .count) (a .k) (a .l) (mask (a .s .pivots)) (mask (a .s .used)) (s .pre .1) (s .pre .2) (s .pre .3) (mask (a .y)) (s .pre .4) (q .last .0) (r .count) (mask (r .pivots)) (mask (r .used)) (q .ensures) (omega (arith, c .before .before .before .before .if1 .left)) (sym (told (c .before)) ∙ c .if2 .left)),
+      row-kept (m .letters) (besideOf bs cs) (m .states) (mask (m .initial)) (mask (m .finals)) hn (a .b .now) (a .w .now) (a .s .count) (a .k) (a .l) (mask (a .s .pivots)) (mask (a .s .used)) (s .pre .1) (s .pre .2) (s .pre .3) (mask (a .y)) (s .pre .4) (q .last .0) (r .count) (mask (r .pivots)) (mask (r .used)) (q .ensures) (a .k) (s .pre .2),
     )
 
 pub try-pair-spec : {M : Type 1} → statement M
 try-pair-spec =
-    tie.close (tie.spec pick-requires insert-requires returns link-requires parity-requires returns-2 returns-3)
+    tie.close (tie.spec insert-requires returns link-requires parity-requires returns-2 returns-3)
