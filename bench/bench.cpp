@@ -17,6 +17,9 @@ extern "C" {
 
 struct Pair { Bytes first, second; };
 
+// So many inputs of a family that no branch predictor knows them by heart: with 128 small ones it does, in some runs, for some programs.
+static const int INPUTS = 512;
+
 // ---- times
 
 static double seconds() {
@@ -130,7 +133,7 @@ int main(int argc, char** argv) {
             std::string size = " n=" + std::to_string(n) + " a=" + std::to_string(a);
             std::vector<Bytes> in;
             std::vector<Pair> early, same;
-            for (int i = 0; i < 128; i++) {
+            for (int i = 0; i < INPUTS; i++) {
                 Machine m = dense(n, a);
                 in.push_back(record_of(m));
                 early.push_back({record_of(m), record_of(dense(n, a))});
@@ -142,7 +145,7 @@ int main(int argc, char** argv) {
         }
     std::vector<Bytes> thick;
     std::vector<Pair> nothing;
-    for (int i = 0; i < 128; i++) {
+    for (int i = 0; i < INPUTS; i++) {
         thick.push_back(record_of(dense(32, 8, 0.9)));
         nothing.push_back({record_of(no_final(dense(32, 8))), record_of(no_final(dense(32, 8)))});
     }
