@@ -21,7 +21,7 @@ pub struct Size {
 }
 
 // Adds x to the rows of block l below n whose neighbours in block 0 have bit q.
-pub fn fold(b: &mut Basis, l: usize, n: usize, q: usize, x: Row)
+fn fold(b: &mut Basis, l: usize, n: usize, q: usize, x: Row)
     requires { ⌜ (l < parts) × (n ≤ width) × (q < width) × (length (now b) ≡ basisSize) ⌝ }
     ensures { λ r. ⌜ Folded (λ j. j < n) l q (mask x) (now (b .entry)) (now (b .exit)) ⌝ }
 {
@@ -37,7 +37,7 @@ pub fn fold(b: &mut Basis, l: usize, n: usize, q: usize, x: Row)
 }
 
 // The same for the rows of the pivots p, of n bits. Where no row found has bit q, no basis row has it, and nothing is to be done.
-pub fn spread(b: &mut Basis, l: usize, n: usize, p: Row, v: Row, q: usize, x: Row)
+fn spread(b: &mut Basis, l: usize, n: usize, p: Row, v: Row, q: usize, x: Row)
     requires { ⌜ (l < parts) × (q < width) × (length (now b) ≡ basisSize) × Unused n (mask p) (mask v) q (now b) ⌝ }
     ensures { λ r. ⌜ Folded (λ j. (j < n) × (bitOf (mask p) j ≡ true)) l q (mask x) (now (b .entry)) (now (b .exit)) ⌝ }
 {
@@ -47,7 +47,7 @@ pub fn spread(b: &mut Basis, l: usize, n: usize, p: Row, v: Row, q: usize, x: Ro
 }
 
 // Row y, found next, whose part x outside the basis has the new pivot q.
-pub fn add(b: &mut Basis, n: usize, s: Size, q: usize, x: Row, y: Row) -> Size
+fn add(b: &mut Basis, n: usize, s: Size, q: usize, x: Row, y: Row) -> Size
     requires { ⌜ (n ≤ width) × (q < width) × (s .count < width) × (length (now b) ≡ basisSize) × Unused n (mask (s .pivots)) (mask (s .used)) q (now b) ⌝ }
     ensures { λ r. ⌜ Added n (s .count) (mask (s .pivots)) q (mask x) (mask y) (now (b .entry)) (now (b .exit)) × (r .count ≡ s .count + 1) × (mask (r .pivots) ≡ bitXor (mask (s .pivots)) (2 ^ q)) × (mask (r .used) ≡ bitOr (mask (s .used)) (mask y)) ⌝ }
 {

@@ -24,7 +24,7 @@ fn row_at(bytes: &[u8], n: usize, l: usize, i: usize) -> Row
 }
 
 // The row x times the matrix of letter l.
-pub fn times_one(bytes: &[u8], l: usize, x: Row) -> Row
+fn times_one(bytes: &[u8], l: usize, x: Row) -> Row
     requires { ⌜ WellFormed (now bytes) × (l < lettersOf (now bytes)) × (mask x < 2 ^ statesOf (now bytes)) ⌝ }
     ensures { λ r. ⌜ mask r ≡ product (statesOf (now (bytes .entry))) (mask x) (rowAt (now (bytes .entry)) l) ⌝ }
 {
@@ -40,7 +40,7 @@ pub fn times_one(bytes: &[u8], l: usize, x: Row) -> Row
 }
 
 // The row x times the matrices of letters l and l + 1, in one pass over the bits of x.
-pub fn times_two(bytes: &[u8], l: usize, x: Row) -> Two
+fn times_two(bytes: &[u8], l: usize, x: Row) -> Two
     requires { ⌜ WellFormed (now bytes) × (l + 2 ≤ lettersOf (now bytes)) × (mask x < 2 ^ statesOf (now bytes)) ⌝ }
     ensures { λ r. ⌜ (mask (r .first) ≡ product (statesOf (now (bytes .entry))) (mask x) (rowAt (now (bytes .entry)) l)) × (mask (r .second) ≡ product (statesOf (now (bytes .entry))) (mask x) (rowAt (now (bytes .entry)) (l + 1))) ⌝ }
 {
@@ -61,7 +61,7 @@ pub fn times_two(bytes: &[u8], l: usize, x: Row) -> Two
 }
 
 // The row x times the matrices of the four letters from l on, in one pass over the bits of x.
-pub fn times_four(bytes: &[u8], l: usize, x: Row) -> Four
+fn times_four(bytes: &[u8], l: usize, x: Row) -> Four
     requires { ⌜ WellFormed (now bytes) × (l + 4 ≤ lettersOf (now bytes)) × (mask x < 2 ^ statesOf (now bytes)) ⌝ }
     ensures { λ r. ⌜ (mask (r .first) ≡ product (statesOf (now (bytes .entry))) (mask x) (rowAt (now (bytes .entry)) l)) × (mask (r .second) ≡ product (statesOf (now (bytes .entry))) (mask x) (rowAt (now (bytes .entry)) (l + 1))) × (mask (r .third) ≡ product (statesOf (now (bytes .entry))) (mask x) (rowAt (now (bytes .entry)) (l + 2))) × (mask (r .fourth) ≡ product (statesOf (now (bytes .entry))) (mask x) (rowAt (now (bytes .entry)) (l + 3))) ⌝ }
 {
@@ -125,7 +125,7 @@ fn put_four(bytes: &[u8], l: usize, x: Row, s: &mut Line)
 }
 
 // The row x times the matrix of every letter, into a line.
-pub fn times_all(bytes: &[u8], x: Row, s: &mut Line)
+fn times_all(bytes: &[u8], x: Row, s: &mut Line)
     requires { ⌜ WellFormed (now bytes) × (mask x < 2 ^ statesOf (now bytes)) × (length (now s) ≡ blocks) ⌝ }
     ensures { λ _. ⌜ Letters (now (bytes .entry)) (mask x) (now (s .exit)) ⌝ }
 {
