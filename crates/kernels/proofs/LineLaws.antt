@@ -22,12 +22,9 @@ line-step m f s v h e L = (
       (getD-set-same s m v 0 (omega (arith, L .0)) ∙ e),
 )
 
--- The first, the first two, the first four and all eight.
-pub line-one : (f : ℕ → ℕ) (s : List ℕ) (v₀ : ℕ) → length s ≡ blocks → v₀ ≡ f 0 → Lined 1 f (set s 0 v₀)
-line-one f s v₀ h e₀ = line-step 0 f s v₀ (omega arith) e₀ (h, λ l z. absurd (not-suc-le-zero z))
-
+-- The first two, the first four and all eight.
 pub line-two : (f : ℕ → ℕ) (s : List ℕ) (v₀ v₁ : ℕ) → length s ≡ blocks → v₀ ≡ f 0 → v₁ ≡ f 1 → Lined 2 f (set (set s 0 v₀) 1 v₁)
-line-two f s v₀ v₁ h e₀ e₁ = line-step 1 f (set s 0 v₀) v₁ (omega arith) e₁ (line-one f s v₀ h e₀)
+line-two f s v₀ v₁ h e₀ e₁ = line-step 1 f (set s 0 v₀) v₁ (omega arith) e₁ (line-step 0 f s v₀ (omega arith) e₀ (h, λ l z. absurd (not-suc-le-zero z)))
 
 pub line-four : (f : ℕ → ℕ) (s : List ℕ) (v₀ v₁ v₂ v₃ : ℕ) → length s ≡ blocks → v₀ ≡ f 0 → v₁ ≡ f 1 → v₂ ≡ f 2 → v₃ ≡ f 3 → Lined 4 f (set (set (set (set s 0 v₀) 1 v₁) 2 v₂) 3 v₃)
 line-four f s v₀ v₁ v₂ v₃ h e₀ e₁ e₂ e₃ =

@@ -80,11 +80,6 @@ pub fn times_all(t: &Table, a: usize, x: Row, s: &mut Line)
     requires { ⌜ (a ≤ blocks) × (length (now s) ≡ blocks) ⌝ }
     ensures { λ r. ⌜ ((n : ℕ) → mask x < 2 ^ n → Products a n (mask x) (at (now (t .entry))) (now (s .exit))) ⌝ }
 {
-    if a <= 1 {
-        let y = rows::times(t, 0, x);
-        s[0] = y.bits;
-        return;
-    }
     if a <= 2 {
         let p = times_two(t, 0, 1, x);
         s[0] = p.first.bits;

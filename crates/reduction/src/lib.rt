@@ -6,39 +6,37 @@ ghost use lib.ListN.{length};
 ghost use Rattle.rows.specs.Row.{width, mask};
 ghost use Rattle.rows.specs.Table.{size, at};
 ghost use Rattle.rows.specs.Machine.{automatonIn, Valid};
-ghost use Rattle.kernels.specs.Products.{Products};
+ghost use Rattle.rows.specs.Product.{product};
 ghost use Rattle.basis.specs.Basis.{basisSize};
 ghost use Rattle.reduction.specs.Tables.{Searching, Column, Reduces, Minimises};
 use basis::Basis;
 use elimination::Size;
-use kernels::Line;
 use rows::Machine;
 use rows::Row;
 use rows::Table;
 
-// Row k of the basis b times letter l, which stands in the line y, placed in b; the rows that make it are kept in out.
+// Row k of the basis b times letter l, which is y, placed in b; the rows that make it are kept in out.
 pub fn step(
     t: &Table,
     m: Machine,
     b: &mut Basis,
     out: &mut Table,
-    y: &Line,
+    y: Row,
     s: Size,
     k: usize,
     l: usize,
 ) -> Size
-    requires { ⌜ Valid (now t) m × Searching (m .letters) (now t) (m .states) (mask (m .initial)) (mask (m .finals)) (now b) (now out) (s .count) k l (mask (s .pivots)) (mask (s .used)) × (k < s .count) × (l < m .letters) × Products (m .letters) (m .states) (at (now b) 1 k) (at (now t)) (now y) ⌝ }
+    requires { ⌜ Valid (now t) m × Searching (m .letters) (now t) (m .states) (mask (m .initial)) (mask (m .finals)) (now b) (now out) (s .count) k l (mask (s .pivots)) (mask (s .used)) × (k < s .count) × (l < m .letters) × (mask y ≡ product (m .states) (at (now b) 1 k) (at (now t) l)) ⌝ }
     ensures { λ r. ⌜ Searching (m .letters) (now (t .entry)) (m .states) (mask (m .initial)) (mask (m .finals)) (now (b .exit)) (now (out .exit)) (r .count) k (l + 1) (mask (r .pivots)) (mask (r .used)) × (s .count ≤ r .count) × (at (now (b .exit)) 1 k ≡ at (now (b .entry)) 1 k) ⌝ }
 {
-    let x = kernels::pick(y, l);
-    let q = elimination::place(b, m.states, s, x);
+    let q = elimination::place(b, m.states, s, y);
     let row = q.row;
     rows::store(out, l, k, row);
     q.size
 }
 
-// Row k by every letter.
-pub fn expand(t: &Table, m: Machine, b: &mut Basis, out: &mut Table, s: Size, k: usize) -> Size
+// Row k by every letter, the products in a line.
+fn expand_letters(t: &Table, m: Machine, b: &mut Basis, out: &mut Table, s: Size, k: usize) -> Size
     requires { ⌜ Valid (now t) m × Searching (m .letters) (now t) (m .states) (mask (m .initial)) (mask (m .finals)) (now b) (now out) (s .count) k 0 (mask (s .pivots)) (mask (s .used)) × (k < s .count) ⌝ }
     ensures { λ r. ⌜ Searching (m .letters) (now (t .entry)) (m .states) (mask (m .initial)) (mask (m .finals)) (now (b .exit)) (now (out .exit)) (r .count) (k + 1) 0 (mask (r .pivots)) (mask (r .used)) × (s .count ≤ r .count) ⌝ }
 {
@@ -49,10 +47,25 @@ pub fn expand(t: &Table, m: Machine, b: &mut Basis, out: &mut Table, s: Size, k:
     let mut r = s;
     let mut l: usize = 0;
     while l < a {
-        r = step(t, m, b, out, &y, r, k, l);
+        let z = kernels::pick(&y, l);
+        r = step(t, m, b, out, z, r, k, l);
         l += 1;
     }
     r
+}
+
+// Row k by every letter. Over one letter there is no line.
+pub fn expand(t: &Table, m: Machine, b: &mut Basis, out: &mut Table, s: Size, k: usize) -> Size
+    requires { ⌜ Valid (now t) m × Searching (m .letters) (now t) (m .states) (mask (m .initial)) (mask (m .finals)) (now b) (now out) (s .count) k 0 (mask (s .pivots)) (mask (s .used)) × (k < s .count) ⌝ }
+    ensures { λ r. ⌜ Searching (m .letters) (now (t .entry)) (m .states) (mask (m .initial)) (mask (m .finals)) (now (b .exit)) (now (out .exit)) (r .count) (k + 1) 0 (mask (r .pivots)) (mask (r .used)) × (s .count ≤ r .count) ⌝ }
+{
+    let a = m.letters;
+    if a == 1 {
+        let x = basis::get(b, 1, k);
+        let y = rows::times(t, 0, x);
+        return step(t, m, b, out, y, s, k, 0);
+    }
+    expand_letters(t, m, b, out, s, k)
 }
 
 // Every row by every letter, first in, first out.

@@ -1,82 +1,58 @@
--- `expand`: the letters below l are done; row k stays, so that the line keeps its products.
-use mathlib.Core.Path.{_≡_, refl, sym, subst, _∙_}
-use Prim.Native.Nat.{_-_, _^_, _≤_, _<_}
+-- `expand`: one letter by itself, or every letter by a line.
+use mathlib.Core.Path.{_≡_, sym, ap, subst, _∙_}
+use Prim.Native.Nat.{_+_, _^_, _<_}
 use native.Mathlib.Omega.{arith}
-use Rattle.rows.specs.Row.{width, mask}
+use borrow.Author.Needs.{needs}
+use Rattle.rows.specs.Row.{mask}
 use Rattle.rows.specs.Table.{at, row}
-use Rattle.kernels.specs.Products.{Products}
+use Rattle.rows.specs.Product.{product}
 use Rattle.reduction.specs.Tables.{Searching}
 use Rattle.reduction.proofs.TableSearch.{count-bound, found-low, searching-next}
 use Rattle.reduction.proofs.expand.Statement.{statement}
 use Rattle.reduction.proofs.expand.Tie as tie
 
-abbrev Inv-loop : tie.InvT-loop
-Inv-loop t m b₀ out₀ k a y r₀ l₀ b out r l = (l ≤ m .letters) × Searching (m .letters) t (m .states) (mask (m .initial)) (mask (m .finals)) b out (r .count) k l (mask (r .pivots)) (mask (r .used)) × (r₀ .count ≤ r .count) × (at b 1 k ≡ at b₀ 1 k)
+get-requires : tie.Need-get-requires
+get-requires c κs =
+    let s = c .before .before in
+    let a = s .args in
+    (omega arith, omega (arith, count-bound (a .m .states) (a .s .count) (mask (a .s .pivots)) (row (a .b .now) 2) (a .b .now) (s .pre .1 .search .basis), s .pre .0 .states, s .pre .2))
 
-abbrev μ-loop : tie.MeasureT-loop
-μ-loop t m b₀ out₀ k a y r₀ l₀ b out r l = m .letters - l
+times-requires : tie.Need-times-requires
+times-requires c κs = search needs
 
--- There are at most as many rows as bits.
-below : (s : tie.Start Inv-loop μ-loop) → s .args .k < width
-below s = omega (arith, count-bound (s .args .m .states) (s .args .s .count) (mask (s .args .s .pivots)) (row (s .args .b .now) 2) (s .args .b .now) (s .pre .1 .search .basis), s .pre .0 .states, s .pre .2)
-
--- The line has the products of row k.
-made : (c : tie.After-times-all Inv-loop μ-loop) → Products (c .before .before .before .before .args .m .letters) (c .before .before .before .before .args .m .states) (at (c .before .before .before .before .args .b .now) 1 (c .before .before .before .before .args .k)) (at (c .before .before .before .before .args .t .now)) (c .times-all .last .1 .1 .1 .0)
-made c =
-    let s = c .before .before .before .before in
+step-requires : tie.Need-step-requires
+step-requires c κs =
+    let s = c .before .before .before .before .before .before in
     let a = s .args in
     let n = a .m .states in
-    let e = c .before .before .get .ensures in
+    let e = c .before .before .before .get .ensures in
     let h = found-low n (a .s .count) (mask (a .s .pivots)) (row (a .b .now) 2) (a .b .now) (s .pre .1 .search .basis) (a .k) (s .pre .2) in
-    subst (λ x. Products (a .m .letters) n x (at (a .t .now)) (c .times-all .last .1 .1 .1 .0)) e (c .times-all .ensures n (subst (λ x. x < 2 ^ n) (sym e) h))
+    (s .pre .0, s .pre .1, s .pre .2, omega (arith, c .before .before .before .before .before .if1 .taken), c .before .before .times .ensures n (subst (λ x. x < 2 ^ n) (sym e) h) ∙ ap (λ x. product n x (at (a .t .now) 0)) e)
 
-get-requires : tie.Need-get-requires Inv-loop μ-loop
-get-requires c κs = (omega arith, below (c .before))
-
-times-all-requires : tie.Need-times-all-requires Inv-loop μ-loop
-times-all-requires c κs = (c .before .before .before .pre .0 .letters, refl)
-
-loop-holds : tie.Need-loop-holds Inv-loop μ-loop
-loop-holds c = (omega arith, c .before .before .before .before .pre .1, omega arith, refl)
-
-step-requires : tie.Need-step-requires Inv-loop μ-loop
-step-requires c κs =
-    let v = c .before .before .before .before .loop in
-    let y = c .before .before .before .before .before in
-    let s = y .before .before .before .before in
-    let a = s .args in
-    (s .pre .0, v .inv .1, omega (arith, v .inv .2, s .pre .2), omega arith, subst (λ x. Products (a .m .letters) (a .m .states) x (at (a .t .now)) (y .times-all .last .1 .1 .1 .0)) (sym (v .inv .3)) (made y))
-
-add-l : tie.Need-add-l Inv-loop μ-loop
-add-l c = omega arith
-
-loop-less : tie.Need-loop-less Inv-loop μ-loop
-loop-less c = omega arith
-
-loop-again : tie.Need-loop-again Inv-loop μ-loop
-loop-again c =
-    let v = c .before .before .before .before .before .loop in
-    let e = c .step .ensures in
-    (omega arith, e .0, omega (arith, e .1, v .inv .2), e .2 ∙ v .inv .3)
-
-returns : tie.Need-returns Inv-loop μ-loop
+returns : tie.Need-returns
 returns c =
-    let v = c .before .loop in
-    let a = c .before .before .before .before .before .before .args in
-    let e : v .l ≡ a .m .letters = omega arith in
-    (searching-next (a .m .letters) (a .t .now) (a .m .states) (mask (a .m .initial)) (mask (a .m .finals)) (v .b) (v .out) (v .r .count) (a .k) (mask (v .r .pivots)) (mask (v .r .used)) (rw e at (v .inv .1)), v .inv .2)
+    let a = c .before .before .before .before .before .before .before .args in
+    let m = a .m in
+    let t = c .step in
+    let r = t .result in
+    let b = t .last .1 .1 .0 in
+    let out = t .last .1 .1 .1 .0 in
+    let e : 0 + 1 ≡ m .letters = omega (arith, c .before .before .before .before .before .before .if1 .taken) in
+    (searching-next (m .letters) (a .t .now) (m .states) (mask (m .initial)) (mask (m .finals)) b out (r .count) (a .k) (mask (r .pivots)) (mask (r .used)) (subst (λ l. Searching (m .letters) (a .t .now) (m .states) (mask (m .initial)) (mask (m .finals)) b out (r .count) (a .k) l (mask (r .pivots)) (mask (r .used))) e (t .ensures .0)), t .ensures .1)
+
+expand-letters-requires : tie.Need-expand-letters-requires
+expand-letters-requires c κs = search needs
+
+returns-2 : tie.Need-returns-2
+returns-2 c = c .expand-letters .ensures
 
 pub expand-spec : {M : Type 1} → statement M
 expand-spec =
     tie.close
     (tie.spec
-    Inv-loop
-    μ-loop
     get-requires
-    times-all-requires
-    loop-holds
+    times-requires
     step-requires
-    add-l
-    loop-less
-    loop-again
-    returns)
+    returns
+    expand-letters-requires
+    returns-2)

@@ -1,56 +1,47 @@
--- `step`: what stands in the line is the product, as short as the rows of the matrix; placed, its coordinates go to the table.
-use mathlib.Core.Path.{_≡_, sym, subst, _∙_}
+-- `step`: the product is as short as the rows of the matrix; placed, its coordinates go to the table.
+use mathlib.Core.Path.{_≡_, sym, subst}
 use Prim.Native.Nat.{_^_, _<_}
 use native.Mathlib.Omega.{arith}
 use Rattle.automata.specs.Mask.{bitOf}
 use Rattle.rows.specs.Row.{mask}
 use Rattle.rows.specs.Table.{at, row}
-use Rattle.rows.specs.Product.{product}
 use Rattle.rows.proofs.ProductLaws.{product-lt}
 use Rattle.reduction.proofs.TableSearch.{count-bound, searching-step, placed-more, placed-kept}
 use Rattle.reduction.proofs.step.Statement.{statement}
 use Rattle.reduction.proofs.step.Tie as tie
 
-made : (c : tie.After-pick) → mask (c .pick .result) ≡ product (c .before .args .m .states) (at (c .before .args .b .now) 1 (c .before .args .k)) (at (c .before .args .t .now) (c .before .args .l))
-made c =
-    let s = c .before in
-    c .pick .ensures ∙ s .pre .4 (s .args .l) (s .pre .3)
-
-pick-requires : tie.Need-pick-requires
-pick-requires c κs = omega (arith, c .pre .0 .letters, c .pre .3)
-
 place-requires : tie.Need-place-requires
 place-requires c κs =
-    let s = c .before .before in
+    let s = c .before in
     let a = s .args in
     let v = s .pre .0 in
-    (v .states, s .pre .1 .base, subst (λ y. y < 2 ^ a .m .states) (sym (made (c .before))) (product-lt (a .m .states) (a .m .states) (at (a .b .now) 1 (a .k)) (at (a .t .now) (a .l)) (λ i h. v .rows (a .l) i (s .pre .3) h)), s .pre .1 .search .basis, s .pre .1 .cover)
+    (v .states, s .pre .1 .base, subst (λ y. y < 2 ^ a .m .states) (sym (s .pre .4)) (product-lt (a .m .states) (a .m .states) (at (a .b .now) 1 (a .k)) (at (a .t .now) (a .l)) (λ i h. v .rows (a .l) i (s .pre .3) h)), s .pre .1 .search .basis, s .pre .1 .cover)
 
 store-requires : tie.Need-store-requires
 store-requires c κs =
-    let s = c .before .before .before .before .before in
+    let s = c .before .before .before .before in
     let a = s .args in
     (omega (arith, s .pre .0 .letters, s .pre .3), omega (arith, count-bound (a .m .states) (a .s .count) (mask (a .s .pivots)) (row (a .b .now) 2) (a .b .now) (s .pre .1 .search .basis), s .pre .0 .states, s .pre .2))
 
 returns : tie.Need-returns
 returns c =
-    let s = c .before .before .before .before .before .before .before in
+    let s = c .before .before .before .before .before .before in
     let a = s .args in
     let n = a .m .states in
     let d = a .s .count in
     let p = mask (a .s .pivots) in
     let v = mask (a .s .used) in
-    let y = mask (c .before .before .before .before .before .before .pick .result) in
+    let y = mask (a .y) in
     let q = c .before .before .before .before .place in
     let x = q .result .row in
     let z = q .result .size in
     let b = a .b .now in
     let e = q .last .0 in (
       searching-step (a .m .letters) (a .t .now) n (mask (a .m .initial)) (mask (a .m .finals)) (s .pre .0) b (a .out .now) d (a .k) (a .l) p v (s .pre .1) (s .pre .2) (s .pre .3)
-          y (made (c .before .before .before .before .before .before)) (mask x) (z .count) (mask (z .pivots)) (mask (z .used)) e (c .before .store .last .0) (q .ensures) (c .before .store .ensures),
+          y (s .pre .4) (mask x) (z .count) (mask (z .pivots)) (mask (z .used)) e (c .before .store .last .0) (q .ensures) (c .before .store .ensures),
       placed-more n d p v y (row b 2) (row e 2) (bitOf (mask x)) b e (z .count) (mask (z .pivots)) (mask (z .used)) (q .ensures),
       placed-kept n d p v y (row b 2) (row e 2) (bitOf (mask x)) b e (z .count) (mask (z .pivots)) (mask (z .used)) (q .ensures) (a .k) (s .pre .2),
     )
 
 pub step-spec : {M : Type 1} → statement M
-step-spec = tie.close (tie.spec pick-requires place-requires store-requires returns)
+step-spec = tie.close (tie.spec place-requires store-requires returns)
