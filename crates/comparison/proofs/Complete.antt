@@ -27,23 +27,7 @@ use Rattle.reduction.specs.Search.{Search}
 use Rattle.elimination.proofs.EchelonLaws.{coordinates, coef-short, onto-thin, echelon-add}
 use Rattle.elimination.proofs.PlaceLaws.{if-same, if-other, ownOf, coefOf}
 use Rattle.reduction.proofs.SearchLaws.{search-next, search-old, search-new, search-tree}
-
--- ---- one more product
-
--- S with v for row k by letter l.
-abbrev pub withRow : (ℕ → ℕ → ℕ → Bool) → ℕ → ℕ → (ℕ → Bool) → ℕ → ℕ → ℕ → Bool
-withRow S k l v x i = cond (eqb x l) (cond (eqb i k) v (S x i)) (S x i)
-
-pub with-kept : (S : ℕ → ℕ → ℕ → Bool) (k l : ℕ) (v : ℕ → Bool) (x i : ℕ) → ((i ≡ k) × (x ≡ l) → ⊥) → withRow S k l v x i ≡ S x i
-with-kept S k l v x i z = go (ℕ-discrete x l) (ℕ-discrete i k)
-  where
-    go : Dec (x ≡ l) → Dec (i ≡ k) → cond (eqb x l) (cond (eqb i k) v (S x i)) (S x i) ≡ S x i
-    go (no e) f = if-other x l (cond (eqb i k) v (S x i)) (S x i) e
-    go (yes e) (no f) = ap (λ b. cond b (cond (eqb i k) v (S x i)) (S x i)) (ap (λ w. eqb w l) e ∙ eqb-same l) ∙ if-other i k v (S x i) f
-    go (yes e) (yes f) = absurd (z (f, e))
-
-pub with-new : (S : ℕ → ℕ → ℕ → Bool) (k l : ℕ) (v : ℕ → Bool) → withRow S k l v l k ≡ v
-with-new S k l v = if-same l (cond (eqb k k) v (S l k)) (S l k) ∙ if-same k v (S l k)
+use Rattle.search.proofs.HuntLaws.{withRow, with-kept, with-new}
 
 -- ---- a whole search
 

@@ -24,12 +24,12 @@ use Rattle.rows.specs.Machine.{autoBy}
 use Rattle.trail.specs.Trail.{fromIn, byIn}
 use Rattle.record.specs.Bytes.{number}
 use Rattle.record.specs.Record.{rowBytes, finalAt, statesOf, lettersOf, automatonOf}
-use Rattle.comparison.specs.Both.{besideOf, Paired}
-use Rattle.comparison.specs.Hunt.{shared, Hunting, Stopped}
+use Rattle.search.specs.Both.{besideOf, Paired}
+use Rattle.search.specs.Hunt.{shared, Hunting, Stopped}
 use Rattle.comparison.specs.Judged.{Found}
 use Rattle.comparison.proofs.Complete.{first-row, row-word, row-side, no-row}
-use Rattle.comparison.proofs.BothLaws.{paired-sizes, paired-thin, paired-bits}
-use Rattle.comparison.proofs.HuntLaws.{stopped-bound}
+use Rattle.search.proofs.BothLaws.{paired-sizes, paired-thin, paired-bits}
+use Rattle.search.proofs.HuntLaws.{stopped-bound}
 
 module _ (bs cs : List ℕ) (m : Machine) (P : Paired bs cs m) where
   abbrev a : ℕ

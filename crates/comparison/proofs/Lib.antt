@@ -1,4 +1,2 @@
 pub mod Complete
-pub mod HuntLaws
-pub mod BothLaws
 pub mod JudgeLaws

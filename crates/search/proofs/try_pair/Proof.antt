@@ -6,13 +6,13 @@ use denote.Ref.{now}
 use Rattle.rows.specs.Row.{mask}
 use Rattle.rows.specs.Table.{at}
 use Rattle.rows.proofs.ProductLaws.{product-lt}
-use Rattle.comparison.specs.Both.{besideOf}
-use Rattle.comparison.specs.Hunt.{shared}
-use Rattle.comparison.proofs.BothLaws.{paired-sizes, paired-rows}
-use Rattle.comparison.proofs.HuntLaws.{row-kept, hunting-old, new-below, hunting-new, stopped-new}
+use Rattle.search.specs.Both.{besideOf}
+use Rattle.search.specs.Hunt.{shared}
+use Rattle.search.proofs.BothLaws.{paired-sizes, paired-rows}
+use Rattle.search.proofs.HuntLaws.{row-kept, hunting-old, new-below, hunting-new, stopped-new}
 use borrow.Author.Needs.{needs}
-use Rattle.comparison.proofs.try_pair.Statement.{statement}
-use Rattle.comparison.proofs.try_pair.Tie as tie
+use Rattle.search.proofs.try_pair.Statement.{statement}
+use Rattle.search.proofs.try_pair.Tie as tie
 
 -- The product is as short as the rows of the two.
 short : (s : tie.Start) → mask (s .args .y) < 2 ^ s .args .m .states

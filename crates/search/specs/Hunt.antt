@@ -16,8 +16,8 @@ use Rattle.basis.specs.Basis.{basisSize}
 use Rattle.trail.specs.Trail.{trailSize, fromIn, byIn}
 use Rattle.elimination.specs.Place.{Covered}
 use Rattle.reduction.specs.Tables.{SearchIn, accepted}
-use Rattle.comparison.specs.declared.Hunt.{Hunt}
-use Rattle.comparison.specs.declared.Hunt.the-variants.{Going, Found}
+use Rattle.search.specs.declared.Hunt.{Hunt}
+use Rattle.search.specs.declared.Hunt.the-variants.{Going, Found}
 
 abbrev pub shared : ℕ → ℕ → ℕ → Bool
 shared n x y = xorBelow n (λ j. bitOf x j && bitOf y j)

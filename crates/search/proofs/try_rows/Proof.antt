@@ -6,11 +6,11 @@ use borrow.Author.Needs.{needs}
 use denote.Ref.{now}
 use Rattle.rows.specs.Row.{width, mask}
 use Rattle.reduction.proofs.TableSearch.{count-bound}
-use Rattle.comparison.specs.Both.{besideOf}
-use Rattle.comparison.specs.Hunt.{Hunting}
-use Rattle.comparison.proofs.BothLaws.{paired-sizes}
-use Rattle.comparison.proofs.try_rows.Statement.{statement}
-use Rattle.comparison.proofs.try_rows.Tie as tie
+use Rattle.search.specs.Both.{besideOf}
+use Rattle.search.specs.Hunt.{Hunting}
+use Rattle.search.proofs.BothLaws.{paired-sizes}
+use Rattle.search.proofs.try_rows.Statement.{statement}
+use Rattle.search.proofs.try_rows.Tie as tie
 
 abbrev Inv-loop : tie.InvT-loop
 Inv-loop first second m b₀ w₀ r₀ k₀ b w r k = (k ≤ r .count) × Hunting (m .letters) (besideOf first second) (m .states) (mask (m .initial)) (mask (m .finals)) b w (r .count) k 0 (mask (r .pivots)) (mask (r .used))

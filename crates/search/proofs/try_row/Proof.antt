@@ -9,12 +9,12 @@ use Rattle.rows.specs.Table.{at}
 use Rattle.rows.specs.Product.{product}
 use Rattle.record.specs.Record.{statesOf}
 use Rattle.reduction.proofs.TableSearch.{count-bound, found-low}
-use Rattle.comparison.specs.Both.{besideOf}
-use Rattle.comparison.specs.Hunt.{Hunted}
-use Rattle.comparison.proofs.BothLaws.{paired-sizes}
-use Rattle.comparison.proofs.HuntLaws.{hunted-next}
-use Rattle.comparison.proofs.try_row.Statement.{statement}
-use Rattle.comparison.proofs.try_row.Tie as tie
+use Rattle.search.specs.Both.{besideOf}
+use Rattle.search.specs.Hunt.{Hunted}
+use Rattle.search.proofs.BothLaws.{paired-sizes}
+use Rattle.search.proofs.HuntLaws.{hunted-next}
+use Rattle.search.proofs.try_row.Statement.{statement}
+use Rattle.search.proofs.try_row.Tie as tie
 
 -- Row k has no bit above those of the two.
 low : (c : tie.After-get) → mask (c .get .result) < 2 ^ (statesOf (now (c .before .before .before .before .before .args .first)) + statesOf (now (c .before .before .before .before .before .args .second)))

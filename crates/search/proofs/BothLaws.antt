@@ -17,7 +17,7 @@ use Rattle.record.specs.Bytes.{number}
 use Rattle.record.specs.Record.{rowBytes, initialAt, finalAt, statesOf, lettersOf, rowAt, WellFormed, automatonOf}
 use Rattle.record.proofs.Refusals.{good-check}
 use Rattle.record.proofs.Encode.{row-below}
-use Rattle.comparison.specs.Both.{besideOf, pairOf, Paired}
+use Rattle.search.specs.Both.{besideOf, pairOf, Paired}
 
 -- I and F of a well-formed record have no bit at its number of states or above.
 pub field-below : (bs : List ℕ) → WellFormed bs → (number rowBytes bs initialAt < 2 ^ statesOf bs) × (number rowBytes bs finalAt < 2 ^ statesOf bs)

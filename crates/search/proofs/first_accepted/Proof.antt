@@ -6,12 +6,12 @@ use denote.Ref.{now}
 use Rattle.rows.specs.Row.{mask}
 use Rattle.elimination.specs.Place.{BasisIn, Placed}
 use Rattle.reduction.proofs.TableSearch.{empty-basis, empty-cover}
-use Rattle.comparison.specs.Both.{besideOf}
-use Rattle.comparison.proofs.BothLaws.{paired-sizes, paired-initial}
-use Rattle.comparison.proofs.HuntLaws.{hunting-start}
+use Rattle.search.specs.Both.{besideOf}
+use Rattle.search.proofs.BothLaws.{paired-sizes, paired-initial}
+use Rattle.search.proofs.HuntLaws.{hunting-start}
 use borrow.Author.Needs.{needs}
-use Rattle.comparison.proofs.first_accepted.Statement.{statement}
-use Rattle.comparison.proofs.first_accepted.Tie as tie
+use Rattle.search.proofs.first_accepted.Statement.{statement}
+use Rattle.search.proofs.first_accepted.Tie as tie
 
 -- No coefficients: there is no row yet.
 none-yet : ℕ → ℕ → Bool

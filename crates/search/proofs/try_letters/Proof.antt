@@ -9,12 +9,12 @@ use Rattle.rows.specs.Table.{at}
 use Rattle.rows.specs.Product.{product}
 use Rattle.kernels.specs.Products.{Products}
 use Rattle.reduction.proofs.TableSearch.{count-bound, found-low}
-use Rattle.comparison.specs.Both.{besideOf}
-use Rattle.comparison.specs.Hunt.{Hunting}
-use Rattle.comparison.proofs.BothLaws.{paired-sizes}
-use Rattle.comparison.proofs.HuntLaws.{hunting-next}
-use Rattle.comparison.proofs.try_letters.Statement.{statement}
-use Rattle.comparison.proofs.try_letters.Tie as tie
+use Rattle.search.specs.Both.{besideOf}
+use Rattle.search.specs.Hunt.{Hunting}
+use Rattle.search.proofs.BothLaws.{paired-sizes}
+use Rattle.search.proofs.HuntLaws.{hunting-next}
+use Rattle.search.proofs.try_letters.Statement.{statement}
+use Rattle.search.proofs.try_letters.Tie as tie
 
 abbrev Inv-loop : tie.InvT-loop
 Inv-loop first second m b₀ w₀ k a y r₀ l₀ b w r l = (l ≤ m .letters) × Hunting (m .letters) (besideOf first second) (m .states) (mask (m .initial)) (mask (m .finals)) b w (r .count) k l (mask (r .pivots)) (mask (r .used)) × (r₀ .count ≤ r .count) × (at b 1 k ≡ at b₀ 1 k)
