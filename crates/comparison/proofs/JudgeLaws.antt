@@ -1,12 +1,13 @@
 -- What the search over two records side by side says of their languages.
-use mathlib.Core.Path.{_≡_, sym, ap, subst, _∙_}
-use mathlib.Core.Bool.{Bool, true, _&&_, and-comm}
+use mathlib.Core.Path.{_≡_, refl, sym, ap, subst, _∙_}
+use mathlib.Core.Bool.{Bool, true, false, _&&_, and-comm}
 use mathlib.Core.List.{List, [], _∷_}
 use mathlib.Core.Logic.{inl, inr}
 use mathlib.Core.Option.{none}
 use Prim.Native.Nat.{ℕ, _<_, _≤_}
 use native.Mathlib.Nat.{not-suc-le-zero}
 use native.Mathlib.Omega.{arith}
+use lib.ListN.{length, replicate, length-replicate}
 use Rattle.automata.specs.Automaton.{Automaton}
 use Rattle.automata.specs.Mask.{bitOf}
 use Rattle.automata.specs.Word.{Shortlex}
@@ -21,7 +22,10 @@ use Rattle.rows.specs.declared.Machine.{Machine}
 use Rattle.rows.specs.Row.{mask}
 use Rattle.rows.specs.Table.{blocks, at, row}
 use Rattle.rows.specs.Machine.{autoBy}
-use Rattle.trail.specs.Trail.{fromIn, byIn}
+use Rattle.rows.proofs.BitLaws.{bit-none}
+use Rattle.basis.specs.Basis.{basisSize}
+use Rattle.trail.specs.Trail.{trailSize, fromIn, byIn}
+use Rattle.elimination.specs.Place.{Placed}
 use Rattle.record.specs.Bytes.{number}
 use Rattle.record.specs.Record.{rowBytes, finalAt, statesOf, lettersOf, automatonOf}
 use Rattle.search.specs.Both.{besideOf, Paired}
@@ -29,7 +33,7 @@ use Rattle.search.specs.Hunt.{shared, Hunting, Stopped}
 use Rattle.comparison.specs.Judged.{Found}
 use Rattle.comparison.proofs.Complete.{first-row, row-word, row-side, no-row}
 use Rattle.search.proofs.BothLaws.{paired-sizes, paired-thin, paired-bits}
-use Rattle.search.proofs.HuntLaws.{stopped-bound}
+use Rattle.search.proofs.HuntLaws.{hunting-start, stopped-bound}
 
 module _ (bs cs : List ℕ) (m : Machine) (P : Paired bs cs m) where
   abbrev a : ℕ
@@ -48,6 +52,16 @@ module _ (bs cs : List ℕ) (m : Machine) (P : Paired bs cs m) where
   pub judged-same : (b w : List ℕ) (d p v : ℕ) → Hunting a (besideOf bs cs) (m .states) (mask (m .initial)) (mask (m .finals)) b w d d 0 p v → firstDifference (lettersOf bs) A B ≡ none
   judged-same b w d p v H = subst (λ x. firstDifference x A B ≡ none) (P .letters)
       (no-row a both A B (paired-thin bs cs m P) (paired-bits bs cs m P) d d 0 (bitOf p) (row b 1) (row b 0) (H .coef) (fromIn w) (byIn w) (H .made) (H .search) (H .none))
+
+  -- No state is initial: the search is over before it begins.
+  pub judged-none : (w : List ℕ) → length w ≡ trailSize → shared (m .states) (mask (m .initial)) (mask (m .finals)) ≡ false → mask (m .initial) ≡ 0 → firstDifference (lettersOf bs) A B ≡ none
+  judged-none w h e z = judged-same empty w 0 0 0 (hunting-start a (besideOf bs cs) (m .states) (mask (m .initial)) (mask (m .finals)) (λ j r. false) (λ j r. false) (λ r. false) empty empty w 0 0 0 placed (length-replicate {A = ℕ} basisSize 0) h e)
+    where
+      empty : List ℕ
+      empty = replicate basisSize 0
+
+      placed : Placed (m .states) 0 0 0 (mask (m .initial)) (λ j r. false) (λ j r. false) (λ r. false) empty empty 0 0 0
+      placed = inl (record { count = refl; pivots = refl; used = refl; table = refl; coef = refl; sum = λ k. ap (λ x. bitOf x k) z ∙ bit-none k; short = λ i g. refl })
 
   -- The search stopped at row r.
   pub judged-differs : (b w : List ℕ) (r : ℕ) (first : Bool) → first ≡ shared (statesOf bs) (number rowBytes bs finalAt) (at b 1 r)

@@ -51,6 +51,10 @@ pub fn compare(first: &[u8], second: &[u8], w: &mut Trail) -> Verdict
             first: rows::parity(g, i),
         };
     }
+    // Nor for two that accept no word, as no state is initial.
+    if rows::is_none(i) {
+        return Verdict::Same;
+    }
     let mut b = [0u64; 192];
     let found = search::first_accepted(first, second, m, &mut b, w);
     let Hunt::Found(r) = found else {

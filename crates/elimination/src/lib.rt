@@ -7,7 +7,7 @@ ghost use lib.Bits.{bitXor, bitOr};
 ghost use lib.ListN.{length};
 ghost use Rattle.automata.specs.Mask.{bitOf};
 ghost use Rattle.rows.specs.Row.{width, mask};
-ghost use Rattle.rows.specs.Table.{row};
+ghost use Rattle.rows.specs.Table.{at, row};
 ghost use Rattle.basis.specs.Basis.{parts, basisSize};
 ghost use Rattle.elimination.specs.Place.{Folded, Unused, Added, BasisIn, Covered, Placed};
 use basis::Basis;
@@ -64,10 +64,11 @@ fn add(b: &mut Basis, n: usize, s: Size, q: usize, x: Row, y: Row) -> Size
     }
 }
 
-// Row y of n bits is an xor of the rows found, and nothing changes; or it is one more of them.
+// Row y of n bits is an xor of the rows found, and nothing changes; or it is one more of them. Block 2 stays.
 pub fn insert(b: &mut Basis, n: usize, s: Size, y: Row) -> Size
     requires { ⌜ (n ≤ width) × (length (now b) ≡ basisSize) × (mask y < 2 ^ n) × ((C : ℕ → ℕ → Bool) × BasisIn n (s .count) (mask (s .pivots)) C (now b)) × Covered (s .count) (mask (s .used)) (now b) ⌝ }
-    ensures { λ r. ⌜ ((C : ℕ → ℕ → Bool) → BasisIn n (s .count) (mask (s .pivots)) C (now (b .entry)) → (C′ : ℕ → ℕ → Bool) × (c : ℕ → Bool) × Placed n (s .count) (mask (s .pivots)) (mask (s .used)) (mask y) C C′ c (now (b .entry)) (now (b .exit)) (r .count) (mask (r .pivots)) (mask (r .used))) ⌝ }
+    ensures placed { λ r. ⌜ ((C : ℕ → ℕ → Bool) → BasisIn n (s .count) (mask (s .pivots)) C (now (b .entry)) → (C′ : ℕ → ℕ → Bool) × (c : ℕ → Bool) × Placed n (s .count) (mask (s .pivots)) (mask (s .used)) (mask y) C C′ c (now (b .entry)) (now (b .exit)) (r .count) (mask (r .pivots)) (mask (r .used))) ⌝ }
+    ensures kept { λ _. ⌜ ((l i : ℕ) → 1 < l → i < width → at (now (b .exit)) l i ≡ at (now (b .entry)) l i) ⌝ }
 {
     let p = s.pivots;
     let z = rows::and(y, p);

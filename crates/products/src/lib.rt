@@ -16,7 +16,7 @@ use record::ROWS_AT;
 use rows::Row;
 
 // The row of letter l and state i of a record of n states.
-fn row_at(bytes: &[u8], n: usize, l: usize, i: usize) -> Row
+pub fn row_at(bytes: &[u8], n: usize, l: usize, i: usize) -> Row
     requires { ⌜ WellFormed (now bytes) × (n ≡ statesOf (now bytes)) × (l < lettersOf (now bytes)) × (i < n) ⌝ }
     ensures { λ r. ⌜ mask r ≡ rowAt (now (bytes .entry)) l i ⌝ }
 {
@@ -140,19 +140,6 @@ fn times_all(bytes: &[u8], x: Row, s: &mut Line)
         return;
     }
     put_four(bytes, 4, x, s);
-}
-
-// The row x times the matrix of letter l of two records side by side.
-pub fn times_pair(first: &[u8], second: &[u8], l: usize, x: Row) -> Row
-    requires { ⌜ WellFormed (now first) × WellFormed (now second) × (lettersOf (now second) ≡ lettersOf (now first)) × (l < lettersOf (now first)) × (mask x < 2 ^ (statesOf (now first) + statesOf (now second))) ⌝ }
-    ensures { λ r. ⌜ mask r ≡ product (statesOf (now (first .entry)) + statesOf (now (second .entry))) (mask x) (beside (rowAt (now (first .entry))) (rowAt (now (second .entry))) (statesOf (now (first .entry))) l) ⌝ }
-{
-    let n = record::size(first[5]);
-    let h = rows::lowered(x, n);
-    let low = rows::xor(x, rows::moved(h, n));
-    let y = times_one(first, l, low);
-    let z = times_one(second, l, h);
-    rows::xor(y, rows::moved(z, n))
 }
 
 // The row x times the matrices of both letters of two records side by side, into a line.

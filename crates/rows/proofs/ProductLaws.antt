@@ -27,6 +27,10 @@ bit-product (suc n) x M j = bit-xor j (product n x M) (cond (bitOf x n) (M n) 0)
 pub product-by-bits : (n x : ℕ) (M : ℕ → ℕ) (y : ℕ) → ((j : ℕ) → bitOf y j ≡ comb n (bitOf x) (λ i. bitOf (M i)) j) → y ≡ product n x M
 product-by-bits n x M y h = bit-ext y (product n x M) (λ j. h j ∙ sym (bit-product n x M j))
 
+-- Only the rows below n count.
+pub product-cong : (n x : ℕ) (M N : ℕ → ℕ) → ((i : ℕ) → i < n → M i ≡ N i) → product n x M ≡ product n x N
+product-cong n x M N h = product-by-bits n x N (product n x M) (λ j. bit-product n x M j ∙ xor-cong n (λ i p. ap (λ v. bitOf x i && bitOf v j) (h i p)))
+
 pub product-lt : (k n x : ℕ) (M : ℕ → ℕ) → ((i : ℕ) → i < n → M i < 2 ^ k) → product n x M < 2 ^ k
 unfolding product
 product-lt k zero x M h = pow-pos k

@@ -24,6 +24,7 @@ use Rattle.elimination.specs.Place.{BasisIn, Old, New, Placed}
 use Rattle.reduction.specs.Tables.{SearchIn, accepted}
 use Rattle.reduction.proofs.SearchLaws.{search-next}
 use Rattle.reduction.proofs.TableSearch.{count-bound, empty-cover, placed-length, placed-cover, search-start, search-old-row, search-new-row}
+use Rattle.search.specs.Chain.{Last}
 use Rattle.search.specs.Hunt.{shared, Hunting, Stopped, Hunted}
 use Rattle.search.specs.declared.Hunt.{Hunt}
 use Rattle.search.specs.declared.Hunt.the-variants.{Going, Found}
@@ -133,6 +134,9 @@ module _ (a : ℕ) (M : ℕ → ℕ → ℕ) (n i f : ℕ) (hn : n ≤ width) (b
 
     pub new-below : d < width
     new-below = omega (arith, new .room)
+
+    pub grown-new : Last d y d′ b′
+    grown-new h = (omega (arith, new .count), new .row-new)
 
     pub accepted-new : accepted n b′ f d ≡ shared n y f
     accepted-new = ap (λ x. shared n x f) (new .row-new)

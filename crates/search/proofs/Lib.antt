@@ -1,2 +1,3 @@
 pub mod BothLaws
 pub mod HuntLaws
+pub mod ChainLaws

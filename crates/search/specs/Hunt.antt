@@ -4,6 +4,7 @@
 --   Hunting     no row found is accepted; the next pair is row k by letter l
 --   Stopped     row r is the first row found that is accepted
 --   Hunted      what a step of the search comes to, from d rows on
+--   Grown       a row that the step finds is its product y, and one more than before
 use mathlib.Core.Path.{_≡_}
 use mathlib.Core.Bool.{Bool, true, false, _&&_}
 use mathlib.Core.List.{List}
@@ -16,6 +17,7 @@ use Rattle.basis.specs.Basis.{basisSize}
 use Rattle.trail.specs.Trail.{trailSize, fromIn, byIn}
 use Rattle.elimination.specs.Place.{Covered}
 use Rattle.reduction.specs.Tables.{SearchIn, accepted}
+use Rattle.search.specs.Chain.{Last}
 use Rattle.search.specs.declared.Hunt.{Hunt}
 use Rattle.search.specs.declared.Hunt.the-variants.{Going, Found}
 
@@ -47,6 +49,10 @@ pub record Stopped (a : ℕ) (M : ℕ → ℕ → ℕ) (n i f : ℕ) (b w : List
 abbrev pub Hunted : ℕ → (ℕ → ℕ → ℕ) → ℕ → ℕ → ℕ → List ℕ → List ℕ → ℕ → ℕ → ℕ → Hunt → Type 0
 Hunted a M n i f b w d k l (Going s) = Hunting a M n i f b w (s .count) k l (mask (s .pivots)) (mask (s .used)) × (d ≤ s .count)
 Hunted a M n i f b w d k l (Found r) = Stopped a M n i f b w r
+
+abbrev pub Grown : ℕ → ℕ → List ℕ → Hunt → Type 0
+Grown d y b (Going s) = Last d y (s .count) b
+Grown d y b (Found r) = Unit
 
 -- Every pair is done, or the search stopped.
 abbrev pub Ended : ℕ → (ℕ → ℕ → ℕ) → ℕ → ℕ → ℕ → List ℕ → List ℕ → Hunt → Type 0

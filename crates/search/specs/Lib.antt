@@ -1,3 +1,4 @@
 -- The definitions that the contracts of the search cite.
 pub mod Both
+pub mod Chain
 pub mod Hunt

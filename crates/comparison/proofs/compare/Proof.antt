@@ -1,8 +1,9 @@
--- `compare`: the empty word, or the search over both side by side for the first row that just one accepts.
+-- `compare`: the empty word, no word, or the search over both side by side for the first row that just one accepts.
 use mathlib.Core.Path.{_≡_, refl, ap, ap₂, subst, sym, _∙_}
 use mathlib.Core.Bool.{Bool}
 use Prim.Native.Nat.{ℕ, _^_, _<_}
 use native.Mathlib.Omega.{arith}
+use borrow.Author.Tests.{eqb-true}
 use denote.Ref.{now}
 use Rattle.rows.specs.Row.{mask}
 use Rattle.record.specs.Bytes.{number}
@@ -12,7 +13,7 @@ use Rattle.search.specs.Both.{besideOf}
 use Rattle.search.specs.Hunt.{shared}
 use Rattle.search.proofs.BothLaws.{field-below, paired-sizes, paired-initial}
 use Rattle.search.proofs.HuntLaws.{stopped-bound}
-use Rattle.comparison.proofs.JudgeLaws.{judged-same, judged-differs, judged-empty}
+use Rattle.comparison.proofs.JudgeLaws.{judged-same, judged-none, judged-differs, judged-empty}
 use borrow.Author.Needs.{needs}
 use Rattle.comparison.proofs.compare.Statement.{statement}
 use Rattle.comparison.proofs.compare.Tie as tie
@@ -52,8 +53,20 @@ returns c =
     let p = c .before .before .before .before .before .paired in
     judged-empty (now (a .first)) (now (a .second)) (p .result) (p .ensures) (a .w .now) (c .parity2 .result) (side (c .before .before .before) (mask (p .result .initial)) (c .parity2 .result) (c .parity2 .ensures)) (sym (told (c .before .before)) ∙ c .before .if1 .taken)
 
+is-none-requires : tie.Need-is-none-requires
+is-none-requires c κs = search needs
+
+-- No state is initial.
+returns-2 : tie.Need-returns-2
+returns-2 c =
+    let s = c .before .before .before .before .before .before .before .before .before in
+    let a = s .args in
+    let p = c .before .before .before .before .before .before .paired in
+    let z = eqb-true (mask (p .result .initial)) 0 (sym (c .before .is-none .ensures) ∙ c .if2 .taken) in
+    judged-none (now (a .first)) (now (a .second)) (p .result) (p .ensures) (a .w .now) (s .pre .3) (sym (told (c .before .before .before)) ∙ c .before .before .if1 .left) z
+
 first-accepted-requires : tie.Need-first-accepted-requires
-first-accepted-requires c κs = (c .before .before .before .before .before .before .paired .ensures, refl, c .before .before .before .before .before .before .before .before .before .pre .3, sym (told (c .before .before .before)) ∙ c .before .before .if1 .left)
+first-accepted-requires c κs = (c .before .before .before .before .before .before .before .before .paired .ensures, refl, c .before .before .before .before .before .before .before .before .before .before .before .pre .3, sym (told (c .before .before .before .before .before)) ∙ c .before .before .before .before .if1 .left)
 
 enum-known-found : tie.Need-enum-known-found
 enum-known-found c = search needs
@@ -61,18 +74,18 @@ enum-known-found c = search needs
 enum-told : tie.Need-enum-told
 enum-told c = search needs
 
-returns-2 : tie.Need-returns-2
-returns-2 c =
-    let a = c .before .before .before .before .before .before .before .before .before .before .before .before .args in
-    let p = c .before .before .before .before .before .before .before .before .before .paired in
+returns-3 : tie.Need-returns-3
+returns-3 c =
+    let a = c .before .before .before .before .before .before .before .before .before .before .before .before .before .before .args in
+    let p = c .before .before .before .before .before .before .before .before .before .before .before .paired in
     let f = c .before .before .first-accepted in
     let z = c .enum-told .given .0 .0 in
     judged-same (now (a .first)) (now (a .second)) (p .result) (p .ensures) (f .last .1 .1 .1 .0) (f .last .1 .1 .1 .1 .0) (z .count) (mask (z .pivots)) (mask (z .used)) (rw (c .enum-told .given .1) at (f .ensures))
 
 get-requires : tie.Need-get-requires
 get-requires c κs =
-    let a = c .before .before .before .before .before .before .before .before .before .before .before .before .before .before .args in
-    let p = c .before .before .before .before .before .before .before .before .before .before .before .paired in
+    let a = c .before .before .before .before .before .before .before .before .before .before .before .before .before .before .before .before .args in
+    let p = c .before .before .before .before .before .before .before .before .before .before .before .before .before .paired in
     let m = p .result in
     let bs = now (a .first) in
     let cs = now (a .second) in
@@ -82,14 +95,14 @@ get-requires c κs =
 parity-requires-3 : tie.Need-parity-requires-3
 parity-requires-3 c κs = search needs
 
-returns-3 : tie.Need-returns-3
-returns-3 c =
-    let a = c .before .before .before .before .before .before .before .before .before .before .before .before .before .before .before .before .args in
+returns-4 : tie.Need-returns-4
+returns-4 c =
+    let a = c .before .before .before .before .before .before .before .before .before .before .before .before .before .before .before .before .before .before .args in
     let bs = now (a .first) in
-    let p = c .before .before .before .before .before .before .before .before .before .before .before .before .before .paired in
+    let p = c .before .before .before .before .before .before .before .before .before .before .before .before .before .before .before .paired in
     let f = c .before .before .before .before .before .before .first-accepted in
     judged-differs bs (now (a .second)) (p .result) (p .ensures) (f .last .1 .1 .1 .0) (f .last .1 .1 .1 .1 .0) (c .before .before .before .before .found .given .0 .0) (c .parity3 .result)
-    (side (c .before .before .before .before .before .before .before .before .before .before .before) (mask (c .before .get .result)) (c .parity3 .result) (c .parity3 .ensures) ∙ ap (shared (statesOf bs) (number rowBytes bs finalAt)) (c .before .get .ensures))
+    (side (c .before .before .before .before .before .before .before .before .before .before .before .before .before) (mask (c .before .get .result)) (c .parity3 .result) (c .parity3 .ensures) ∙ ap (shared (statesOf bs) (number rowBytes bs finalAt)) (c .before .get .ensures))
     (rw (c .before .before .before .before .found .given .1) at (f .ensures))
 
 pub compare-spec : {M : Type 1} → statement M
@@ -101,10 +114,12 @@ compare-spec =
     parity-requires
     parity-requires-2
     returns
+    is-none-requires
+    returns-2
     first-accepted-requires
     enum-known-found
     enum-told
-    returns-2
+    returns-3
     get-requires
     parity-requires-3
-    returns-3)
+    returns-4)

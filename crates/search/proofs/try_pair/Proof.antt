@@ -9,7 +9,7 @@ use Rattle.rows.proofs.ProductLaws.{product-lt}
 use Rattle.search.specs.Both.{besideOf}
 use Rattle.search.specs.Hunt.{shared}
 use Rattle.search.proofs.BothLaws.{paired-sizes, paired-rows}
-use Rattle.search.proofs.HuntLaws.{row-kept, hunting-old, new-below, hunting-new, stopped-new}
+use Rattle.search.proofs.HuntLaws.{row-kept, hunting-old, new-below, grown-new, hunting-new, stopped-new}
 use borrow.Author.Needs.{needs}
 use Rattle.search.proofs.try_pair.Statement.{statement}
 use Rattle.search.proofs.try_pair.Tie as tie
@@ -40,8 +40,10 @@ returns c =
     let hn = paired-sizes bs cs m (s .pre .0) .1 in
     let q = c .before .before .insert in
     let r = q .result in (
-      hunting-old (m .letters) (besideOf bs cs) (m .states) (mask (m .initial)) (mask (m .finals)) hn (a .b .now) (a .w .now) (a .s .count) (a .k) (a .l) (mask (a .s .pivots)) (mask (a .s .used)) (s .pre .1) (s .pre .2) (s .pre .3) (mask (a .y)) (s .pre .4) (q .last .0) (r .count) (mask (r .pivots)) (mask (r .used)) (q .ensures) (omega arith),
-      row-kept (m .letters) (besideOf bs cs) (m .states) (mask (m .initial)) (mask (m .finals)) hn (a .b .now) (a .w .now) (a .s .count) (a .k) (a .l) (mask (a .s .pivots)) (mask (a .s .used)) (s .pre .1) (s .pre .2) (s .pre .3) (mask (a .y)) (s .pre .4) (q .last .0) (r .count) (mask (r .pivots)) (mask (r .used)) (q .ensures) (a .k) (s .pre .2),
+      hunting-old (m .letters) (besideOf bs cs) (m .states) (mask (m .initial)) (mask (m .finals)) hn (a .b .now) (a .w .now) (a .s .count) (a .k) (a .l) (mask (a .s .pivots)) (mask (a .s .used)) (s .pre .1) (s .pre .2) (s .pre .3) (mask (a .y)) (s .pre .4) (q .last .0) (r .count) (mask (r .pivots)) (mask (r .used)) (q .ensures .0) (omega arith),
+      row-kept (m .letters) (besideOf bs cs) (m .states) (mask (m .initial)) (mask (m .finals)) hn (a .b .now) (a .w .now) (a .s .count) (a .k) (a .l) (mask (a .s .pivots)) (mask (a .s .used)) (s .pre .1) (s .pre .2) (s .pre .3) (mask (a .y)) (s .pre .4) (q .last .0) (r .count) (mask (r .pivots)) (mask (r .used)) (q .ensures .0) (a .k) (s .pre .2),
+      λ i h. q .ensures .1 2 i (omega arith) h,
+      λ h. absurd (omega arith),
     )
 
 link-requires : tie.Need-link-requires
@@ -54,7 +56,7 @@ link-requires c κs =
     let z = paired-sizes bs cs m (s .pre .0) in
     let q = c .before .before .before .insert in
     let r = q .result in
-    let d = new-below (m .letters) (besideOf bs cs) (m .states) (mask (m .initial)) (mask (m .finals)) (z .1) (a .b .now) (a .w .now) (a .s .count) (a .k) (a .l) (mask (a .s .pivots)) (mask (a .s .used)) (s .pre .1) (s .pre .2) (s .pre .3) (mask (a .y)) (s .pre .4) (q .last .0) (r .count) (mask (r .pivots)) (mask (r .used)) (q .ensures) (omega (arith, c .before .if1 .left)) in
+    let d = new-below (m .letters) (besideOf bs cs) (m .states) (mask (m .initial)) (mask (m .finals)) (z .1) (a .b .now) (a .w .now) (a .s .count) (a .k) (a .l) (mask (a .s .pivots)) (mask (a .s .used)) (s .pre .1) (s .pre .2) (s .pre .3) (mask (a .y)) (s .pre .4) (q .last .0) (r .count) (mask (r .pivots)) (mask (r .used)) (q .ensures .0) (omega (arith, c .before .if1 .left)) in
     (d, omega (arith, s .pre .2), omega (arith, z .2, s .pre .3))
 
 parity-requires : tie.Need-parity-requires
@@ -74,8 +76,10 @@ returns-2 c =
     let hn = paired-sizes bs cs m (s .pre .0) .1 in
     let q = c .before .before .before .before .before .before .insert in
     let r = q .result in (
-      rw (c .before .before .link .ensures) (stopped-new (m .letters) (besideOf bs cs) (m .states) (mask (m .initial)) (mask (m .finals)) hn (a .b .now) (a .w .now) (a .s .count) (a .k) (a .l) (mask (a .s .pivots)) (mask (a .s .used)) (s .pre .1) (s .pre .2) (s .pre .3) (mask (a .y)) (s .pre .4) (q .last .0) (r .count) (mask (r .pivots)) (mask (r .used)) (q .ensures) (omega (arith, c .before .before .before .before .if1 .left)) (sym (told (c .before)) ∙ c .if2 .taken)),
-      row-kept (m .letters) (besideOf bs cs) (m .states) (mask (m .initial)) (mask (m .finals)) hn (a .b .now) (a .w .now) (a .s .count) (a .k) (a .l) (mask (a .s .pivots)) (mask (a .s .used)) (s .pre .1) (s .pre .2) (s .pre .3) (mask (a .y)) (s .pre .4) (q .last .0) (r .count) (mask (r .pivots)) (mask (r .used)) (q .ensures) (a .k) (s .pre .2),
+      rw (c .before .before .link .ensures) (stopped-new (m .letters) (besideOf bs cs) (m .states) (mask (m .initial)) (mask (m .finals)) hn (a .b .now) (a .w .now) (a .s .count) (a .k) (a .l) (mask (a .s .pivots)) (mask (a .s .used)) (s .pre .1) (s .pre .2) (s .pre .3) (mask (a .y)) (s .pre .4) (q .last .0) (r .count) (mask (r .pivots)) (mask (r .used)) (q .ensures .0) (omega (arith, c .before .before .before .before .if1 .left)) (sym (told (c .before)) ∙ c .if2 .taken)),
+      row-kept (m .letters) (besideOf bs cs) (m .states) (mask (m .initial)) (mask (m .finals)) hn (a .b .now) (a .w .now) (a .s .count) (a .k) (a .l) (mask (a .s .pivots)) (mask (a .s .used)) (s .pre .1) (s .pre .2) (s .pre .3) (mask (a .y)) (s .pre .4) (q .last .0) (r .count) (mask (r .pivots)) (mask (r .used)) (q .ensures .0) (a .k) (s .pre .2),
+      λ i h. q .ensures .1 2 i (omega arith) h,
+      tt,
     )
 
 returns-3 : tie.Need-returns-3
@@ -88,8 +92,10 @@ returns-3 c =
     let hn = paired-sizes bs cs m (s .pre .0) .1 in
     let q = c .before .before .before .before .before .before .insert in
     let r = q .result in (
-      rw (c .before .before .link .ensures) (hunting-new (m .letters) (besideOf bs cs) (m .states) (mask (m .initial)) (mask (m .finals)) hn (a .b .now) (a .w .now) (a .s .count) (a .k) (a .l) (mask (a .s .pivots)) (mask (a .s .used)) (s .pre .1) (s .pre .2) (s .pre .3) (mask (a .y)) (s .pre .4) (q .last .0) (r .count) (mask (r .pivots)) (mask (r .used)) (q .ensures) (omega (arith, c .before .before .before .before .if1 .left)) (sym (told (c .before)) ∙ c .if2 .left)),
-      row-kept (m .letters) (besideOf bs cs) (m .states) (mask (m .initial)) (mask (m .finals)) hn (a .b .now) (a .w .now) (a .s .count) (a .k) (a .l) (mask (a .s .pivots)) (mask (a .s .used)) (s .pre .1) (s .pre .2) (s .pre .3) (mask (a .y)) (s .pre .4) (q .last .0) (r .count) (mask (r .pivots)) (mask (r .used)) (q .ensures) (a .k) (s .pre .2),
+      rw (c .before .before .link .ensures) (hunting-new (m .letters) (besideOf bs cs) (m .states) (mask (m .initial)) (mask (m .finals)) hn (a .b .now) (a .w .now) (a .s .count) (a .k) (a .l) (mask (a .s .pivots)) (mask (a .s .used)) (s .pre .1) (s .pre .2) (s .pre .3) (mask (a .y)) (s .pre .4) (q .last .0) (r .count) (mask (r .pivots)) (mask (r .used)) (q .ensures .0) (omega (arith, c .before .before .before .before .if1 .left)) (sym (told (c .before)) ∙ c .if2 .left)),
+      row-kept (m .letters) (besideOf bs cs) (m .states) (mask (m .initial)) (mask (m .finals)) hn (a .b .now) (a .w .now) (a .s .count) (a .k) (a .l) (mask (a .s .pivots)) (mask (a .s .used)) (s .pre .1) (s .pre .2) (s .pre .3) (mask (a .y)) (s .pre .4) (q .last .0) (r .count) (mask (r .pivots)) (mask (r .used)) (q .ensures .0) (a .k) (s .pre .2),
+      λ i h. q .ensures .1 2 i (omega arith) h,
+      grown-new (m .letters) (besideOf bs cs) (m .states) (mask (m .initial)) (mask (m .finals)) hn (a .b .now) (a .w .now) (a .s .count) (a .k) (a .l) (mask (a .s .pivots)) (mask (a .s .used)) (s .pre .1) (s .pre .2) (s .pre .3) (mask (a .y)) (s .pre .4) (q .last .0) (r .count) (mask (r .pivots)) (mask (r .used)) (q .ensures .0) (omega (arith, c .before .before .before .before .if1 .left)),
     )
 
 pub try-pair-spec : {M : Type 1} → statement M
