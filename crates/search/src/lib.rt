@@ -135,14 +135,7 @@ fn start(b: &mut Basis, m: Machine) -> Size
 }
 
 // Over one letter the row found last is the next one to try, so it is kept at hand; the rows to multiply it by are in block 2.
-fn try_chain(
-    first: &[u8],
-    second: &[u8],
-    m: Machine,
-    b: &mut Basis,
-    w: &mut Trail,
-    s: Size,
-) -> Hunt
+fn try_chain(first: &[u8], second: &[u8], m: Machine, b: &mut Basis, w: &mut Trail, s: Size) -> Hunt
     requires { ⌜ Paired (now first) (now second) m × (m .letters ≡ 1) × Hunting (m .letters) (besideOf (now first) (now second)) (m .states) (mask (m .initial)) (mask (m .finals)) (now b) (now w) (s .count) 0 0 (mask (s .pivots)) (mask (s .used)) × SideBySide (now first) (now second) (m .states) (now b) × Last 0 (mask (m .initial)) (s .count) (now b) ⌝ }
     ensures { λ r. ⌜ Ended (m .letters) (besideOf (now (first .entry)) (now (second .entry))) (m .states) (mask (m .initial)) (mask (m .finals)) (now (b .exit)) (now (w .exit)) r ⌝ }
 {

@@ -78,12 +78,13 @@ returns-2 c =
     let y = mask (a .y) in
     let t = a .b .now in
     let q = c .before .before .lowest .result in
-    let A = c .add .ensures in
-    (λ C F.
-    let own : ℕ → Bool = ownOf n d (bitOf p) C (bitOf y) in
-    let new : ℕ → ℕ → Bool = coefOf (row t 0) C own q in
-    (new, λ i. eqb i d, inr (rw (A .1, A .2, A .3) (place-new n d p v y t C F (s .pre .2) (mask (c .before .before .before .before .before .before .before .before .and .result)) (c .before .before .before .before .before .before .before .before .and .ensures) (mask (c .before .before .before .before .before .before .times .result)) (c .before .before .before .before .before .before .times .ensures) (mask (c .before .before .before .before .before .xor .result)) (c .before .before .before .before .before .xor .ensures) q (c .before .before .lowest .ensures .1) (s .pre .4) (s .pre .0) t (c .add .last .0) (λ l i h g. refl) (A .0) own (λ i. refl) new (λ j i h f g. if-other j q _ _ g) (λ i. if-same q _ _) (λ i. eqb i d) (λ i. refl)))),
-    A .0 .other)
+    let A = c .add .ensures in (
+      λ C F.
+          let own : ℕ → Bool = ownOf n d (bitOf p) C (bitOf y) in
+          let new : ℕ → ℕ → Bool = coefOf (row t 0) C own q in
+          (new, λ i. eqb i d, inr (rw (A .1, A .2, A .3) (place-new n d p v y t C F (s .pre .2) (mask (c .before .before .before .before .before .before .before .before .and .result)) (c .before .before .before .before .before .before .before .before .and .ensures) (mask (c .before .before .before .before .before .before .times .result)) (c .before .before .before .before .before .before .times .ensures) (mask (c .before .before .before .before .before .xor .result)) (c .before .before .before .before .before .xor .ensures) q (c .before .before .lowest .ensures .1) (s .pre .4) (s .pre .0) t (c .add .last .0) (λ l i h g. refl) (A .0) own (λ i. refl) new (λ j i h f g. if-other j q _ _ g) (λ i. if-same q _ _) (λ i. eqb i d) (λ i. refl)))),
+      A .0 .other,
+    )
 
 pub insert-spec : {M : Type 1} → statement M
 insert-spec =
