@@ -124,25 +124,37 @@ static void agree(int cases) {
     std::printf("%d random machines and pairs agree\n", cases);
 }
 
-int main(int argc, char** argv) {
-    double budget = argc > 1 ? std::atof(argv[1]) : 0.25;
-    agree(20000);
-    std::printf("%-42s %8s %8s %8s   %6s %6s\n", "microseconds for one call", "plain", "tuned", "proved", "/plain", "/tuned");
-    for (int n : {8, 16, 32})
-        for (int a : {1, 2, 8}) {
-            std::string size = " n=" + std::to_string(n) + " a=" + std::to_string(a);
-            std::vector<Bytes> in;
-            std::vector<Pair> early, same;
-            for (int i = 0; i < INPUTS; i++) {
-                Machine m = dense(n, a);
-                in.push_back(record_of(m));
-                early.push_back({record_of(m), record_of(dense(n, a))});
-                same.push_back({record_of(m), record_of(other_basis(m))});
-            }
-            time_minimal("random dense" + size, in, budget);
-            time_compare("that differs early" + size, early, budget);
-            time_compare("same language, two bases" + size, same, budget);
-        }
+// ---- families
+
+static std::string size_of(int n, int a) { return " n=" + std::to_string(n) + " a=" + std::to_string(a); }
+
+static void time_dense(int n, int a, double budget) {
+    std::vector<Bytes> in;
+    std::vector<Pair> early, same;
+    for (int i = 0; i < INPUTS; i++) {
+        Machine m = dense(n, a);
+        in.push_back(record_of(m));
+        early.push_back({record_of(m), record_of(dense(n, a))});
+        same.push_back({record_of(m), record_of(other_basis(m))});
+    }
+    time_minimal("random dense" + size_of(n, a), in, budget);
+    time_compare("that differs early" + size_of(n, a), early, budget);
+    time_compare("same language, two bases" + size_of(n, a), same, budget);
+}
+
+static void time_deterministic(int n, int a, double budget) {
+    std::vector<Bytes> in;
+    std::vector<Pair> same;
+    for (int i = 0; i < INPUTS; i++) {
+        Machine m = deterministic(n, a);
+        in.push_back(record_of(m));
+        same.push_back({record_of(m), record_of(renamed(m))});
+    }
+    time_minimal("deterministic" + size_of(n, a), in, budget);
+    time_compare("deterministic, renamed" + size_of(n, a), same, budget);
+}
+
+static void time_worst(double budget) {
     std::vector<Bytes> thick;
     std::vector<Pair> nothing;
     for (int i = 0; i < INPUTS; i++) {
@@ -151,8 +163,22 @@ int main(int argc, char** argv) {
     }
     time_check("n=32 a=8", thick, budget);
     time_minimal("density 0.9 n=32 a=8", thick, budget);
-    time_minimal("only 0^31 a=1", {record_of(only(31, 1))}, budget);
-    time_minimal("only 0^31 a=8", {record_of(only(31, 8))}, budget);
     time_compare("of two empty languages n=32 a=8", nothing, budget);
+    for (int a : {1, 8}) {
+        Bytes m = record_of(only(31, a));
+        time_minimal("only 0^31 a=" + std::to_string(a), {m}, budget);
+        time_compare("only 0^31 with itself a=" + std::to_string(a), {{m, m}}, budget);
+    }
+}
+
+int main(int argc, char** argv) {
+    double budget = argc > 1 ? std::atof(argv[1]) : 0.25;
+    agree(20000);
+    std::printf("%-42s %8s %8s %8s   %6s %6s\n", "microseconds for one call", "plain", "tuned", "proved", "/plain", "/tuned");
+    for (int n : {1, 2, 4, 8, 16, 32})
+        for (int a : {1, 2, 8}) time_dense(n, a, budget);
+    for (int n : {4, 32})
+        for (int a : {1, 2, 8}) time_deterministic(n, a, budget);
+    time_worst(budget);
     worst_lines();
 }

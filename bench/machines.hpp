@@ -1,4 +1,4 @@
-// The machines that the benchmarks run on: random dense ones, sparse ones, the same language in another basis. Needs the yardstick's Machine.
+// The machines that the benchmarks run on: random dense ones, sparse and deterministic ones, the same language in another basis. Needs the yardstick's Machine.
 #ifndef MACHINES_HPP
 #define MACHINES_HPP
 
@@ -45,6 +45,18 @@ static inline Machine only(int k, int a) {
     return m;
 }
 
+// A deterministic machine: one state to begin in, and one after each state and letter.
+static inline Machine deterministic(int n, int a) {
+    Machine m;
+    m.n = n;
+    m.a = a;
+    m.I = 1;
+    m.F = random_row(n, 0.5);
+    for (int l = 0; l < a; l++)
+        for (int i = 0; i < n; i++) m.T[l][i] = 1ull << random64() % n;
+    return m;
+}
+
 // Nothing is accepted, though every row can be reached.
 static inline Machine no_final(Machine m) {
     m.F = 0;
@@ -68,6 +80,27 @@ static inline Machine other_basis(Machine m) {
         if (i != j) change_basis(m, i, j);
     }
     return m;
+}
+
+// The same machine with its states in another order.
+static inline Machine renamed(const Machine& m) {
+    int to[32];
+    for (int i = 0; i < m.n; i++) {
+        int j = random64() % (i + 1);
+        to[i] = to[j];
+        to[j] = i;
+    }
+    auto row = [&](u64 v) {
+        u64 w = 0;
+        for (int i = 0; i < m.n; i++) w |= (v >> i & 1) << to[i];
+        return w;
+    };
+    Machine o = m;
+    o.I = row(m.I);
+    o.F = row(m.F);
+    for (int l = 0; l < m.a; l++)
+        for (int i = 0; i < m.n; i++) o.T[l][to[i]] = row(m.T[l][i]);
+    return o;
 }
 
 static inline Bytes record_of(const Machine& m) {
