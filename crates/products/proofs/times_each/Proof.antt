@@ -32,7 +32,7 @@ loop-holds : tie.Need-loop-holds Inv-loop μ-loop
 loop-holds c = (omega arith, upto-none _ _ _ (c .before .before .before .before .args .s .now) (c .before .before .before .before .pre .4))
 
 times-pair-requires : tie.Need-times-pair-requires Inv-loop μ-loop
-times-pair-requires c κs = let p = c .before .before .before .before .before .before .before .pre in (p .0, p .1, p .2, letter (c .before) .0, p .3)
+times-pair-requires c κs = let p = c .before .before .before .before .before .before .before .pre in (p .0, p .1, p .2, omega (arith, letter (c .before) .0), p .3)
 
 put-requires : tie.Need-put-requires Inv-loop μ-loop
 put-requires c κs = omega (arith, letter (c .before .before) .0, letter (c .before .before) .1)
