@@ -100,6 +100,7 @@ pub fn compare(first: &[u8], second: &[u8], word: &mut [u8]) -> Compared
     ensures first { λ r. ⌜ ((n : ℕ) (s : Side) → r ≡ Compared.Differs n s → FirstDifference (lettersOf (now (first .entry))) (languageOf (now (first .entry))) (languageOf (now (second .entry))) (take n (now (word .exit))) × (languageOf (acceptorOf s (now (first .entry)) (now (second .entry))) (take n (now (word .exit))) ≡ true) × ((d e : ℕ) → IsDimension (lettersOf (now (first .entry))) (languageOf (now (first .entry))) d → IsDimension (lettersOf (now (first .entry))) (languageOf (now (second .entry))) e → n < d + e)) ⌝ }
     ensures withheld { λ r. ⌜ (WellFormed (now (first .entry)) → WellFormed (now (second .entry)) → lettersOf (now (first .entry)) ≡ lettersOf (now (second .entry)) → (w : List ℕ) → FirstDifference (lettersOf (now (first .entry))) (languageOf (now (first .entry))) (languageOf (now (second .entry))) w → (length (now (word .entry)) < length w → r ≡ Compared.Refused 12 0 (length w)) × ((k : ℕ) → r ≡ Compared.Refused 12 0 k → (k ≡ length w) × (length (now (word .entry)) < length w))) ⌝ }
 {
+    // Borrowed anew, a slice is handed on as a pointer and a length; as it came it would be copied whole, right after it was stored in two.
     let p = operands::check_pair(&*first, &*second);
     let Pair::Both = p else {
         return refuse(p);

@@ -49,9 +49,6 @@ module _ (bs cs : List ℕ) (t u s : List ℕ) (L : Laid (statesOf bs) 0 (rowAt 
           let j : i ≡ k + (i - k) = omega arith in
           ap (at s 2) j ∙ N .rows (i - k) (omega arith) ∙ ap (λ x. rowAt cs 0 (i - x) * 2 ^ x) ek ∙ sym (if-high i (statesOf bs) (rowAt bs 0 i) (rowAt cs 0 (i - statesOf bs) * 2 ^ statesOf bs) (omega arith))
 
-pub laid-length : (n k : ℕ) (M : ℕ → ℕ) (t s : List ℕ) → length t ≡ basisSize → Laid n k M t s → length s ≡ basisSize
-laid-length n k M t s h L = L .size ∙ h
-
 -- A row times the matrix in block 2 is the row times the matrix of both.
 pub side-product : (bs cs : List ℕ) (n : ℕ) (t : List ℕ) → SideBySide bs cs n t → (x : ℕ) → product n x (at t 2) ≡ product n x (besideOf bs cs 0)
 side-product bs cs n t S x = product-cong n x (at t 2) (besideOf bs cs 0) S

@@ -1,19 +1,18 @@
 -- The search for the first accepted row, pair by pair.
-use mathlib.Core.Path.{_≡_, sym, ap, subst, _∙_}
-use mathlib.Core.Bool.{Bool, true, false, _&&_, cond}
+use mathlib.Core.Path.{_≡_, ap, subst, _∙_}
+use mathlib.Core.Bool.{Bool, true, false, cond}
 use mathlib.Core.List.{List}
 use mathlib.Core.Logic.{inl, inr}
-use Prim.Native.Nat.{ℕ, suc, _+_, _^_, _<_, _≤_}
+use Prim.Native.Nat.{ℕ, _+_, _<_, _≤_}
 use native.Mathlib.Numerals.{add-one}
 use native.Mathlib.Decide.{ℕ-discrete}
 use native.Mathlib.Omega.{arith}
 use lib.ListN.{length}
 use lib.Dec.{eqb}
-use Rattle.automata.specs.Xor.{xorBelow}
 use Rattle.automata.specs.Mask.{bitOf}
 use Rattle.automata.proofs.Xor.{eqb-same}
 use Rattle.automata.proofs.Below.{up-to}
-use Rattle.rows.specs.Row.{width, mask}
+use Rattle.rows.specs.Row.{width}
 use Rattle.rows.specs.Table.{at, row}
 use Rattle.rows.specs.Product.{product}
 use Rattle.rows.specs.Machine.{autoBy}
@@ -25,9 +24,7 @@ use Rattle.reduction.specs.Tables.{SearchIn, accepted}
 use Rattle.reduction.proofs.SearchLaws.{search-next}
 use Rattle.reduction.proofs.TableSearch.{count-bound, empty-cover, placed-length, placed-cover, search-start, search-old-row, search-new-row}
 use Rattle.search.specs.Chain.{Last}
-use Rattle.search.specs.Hunt.{shared, Hunting, Stopped, Hunted}
-use Rattle.search.specs.declared.Hunt.{Hunt}
-use Rattle.search.specs.declared.Hunt.the-variants.{Going, Found}
+use Rattle.search.specs.Hunt.{shared, Hunting, Stopped}
 use Rattle.elimination.proofs.PlaceLaws.{if-same, if-other}
 
 -- ---- one more product
@@ -184,11 +181,6 @@ hunting-next a M n i f b w d k p v H = record {
   trail = H .trail;
   none = H .none;
 }
-
--- The same of what a step came to, at its last letter.
-pub hunted-next : (a : ℕ) (M : ℕ → ℕ → ℕ) (n i f : ℕ) (b w : List ℕ) (d k : ℕ) (r : Hunt) → Hunted a M n i f b w d k a r → Hunted a M n i f b w d (k + 1) 0 r
-hunted-next a M n i f b w d k (Going s) H = (hunting-next a M n i f b w (s .count) k (mask (s .pivots)) (mask (s .used)) (H .0), H .1)
-hunted-next a M n i f b w d k (Found r) H = H
 
 -- A row found is one of as many rows as a row has bits.
 pub stopped-bound : (a : ℕ) (M : ℕ → ℕ → ℕ) (n i f : ℕ) (b w : List ℕ) (r : ℕ) → n ≤ width → Stopped a M n i f b w r → r < width

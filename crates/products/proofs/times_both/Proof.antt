@@ -1,5 +1,5 @@
 -- `times_both`: two letters by themselves, each letter by itself, or every letter by lines.
-use mathlib.Core.Path.{_≡_, sym, _∙_}
+use mathlib.Core.Path.{sym, _∙_}
 use native.Mathlib.Omega.{arith}
 use Rattle.record.proofs.Refusals.{good-check}
 use borrow.Author.Needs.{needs}

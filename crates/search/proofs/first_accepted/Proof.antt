@@ -1,12 +1,10 @@
 -- `first_accepted`: over one letter or over more, from the initial row on.
-use mathlib.Core.Path.{_≡_}
 use native.Mathlib.Omega.{arith}
 use denote.Ref.{now}
 use Rattle.rows.specs.Row.{mask}
 use Rattle.search.specs.Both.{besideOf}
 use Rattle.search.proofs.BothLaws.{paired-sizes, paired-initial}
 use Rattle.search.proofs.HuntLaws.{hunting-start}
-use borrow.Author.Needs.{needs}
 use Rattle.search.proofs.first_accepted.Statement.{statement}
 use Rattle.search.proofs.first_accepted.Tie as tie
 

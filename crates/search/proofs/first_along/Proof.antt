@@ -1,5 +1,5 @@
 -- `first_along`: the rows of both are laid, then the initial row is placed.
-use mathlib.Core.Path.{_≡_, _∙_}
+use mathlib.Core.Path.{_∙_}
 use native.Mathlib.Omega.{arith}
 use denote.Ref.{now}
 use Rattle.rows.specs.Row.{mask}

@@ -10,7 +10,7 @@ use Rattle.rows.specs.Product.{product}
 use Rattle.reduction.proofs.TableSearch.{count-bound, found-low}
 use Rattle.search.specs.Both.{besideOf}
 use Rattle.search.specs.Chain.{SideBySide, Last}
-use Rattle.search.specs.Hunt.{Hunting, Hunted}
+use Rattle.search.specs.Hunt.{Hunting}
 use Rattle.search.proofs.BothLaws.{paired-sizes}
 use Rattle.search.proofs.HuntLaws.{hunting-next}
 use Rattle.search.proofs.ChainLaws.{side-product, side-kept, last-next}
