@@ -27,7 +27,7 @@ use Rattle.reduction.specs.Search.{Search}
 use Rattle.elimination.proofs.EchelonLaws.{coordinates, coef-short, onto-thin, echelon-add}
 use Rattle.elimination.proofs.PlaceLaws.{if-same, if-other, ownOf, coefOf}
 use Rattle.reduction.proofs.SearchLaws.{search-next, search-old, search-new, search-tree}
-use Rattle.search.proofs.HuntLaws.{withRow, with-kept, with-new}
+use Rattle.hunt.proofs.HuntLaws.{withRow, with-kept, with-new}
 
 -- ---- a whole search
 

@@ -28,12 +28,12 @@ use Rattle.trail.specs.Trail.{trailSize, fromIn, byIn}
 use Rattle.elimination.specs.Place.{Placed}
 use Rattle.record.specs.Bytes.{number}
 use Rattle.record.specs.Record.{rowBytes, finalAt, statesOf, lettersOf, automatonOf}
-use Rattle.search.specs.Both.{besideOf, Paired}
-use Rattle.search.specs.Hunt.{shared, Hunting, Stopped}
+use Rattle.hunt.specs.Both.{besideOf, Paired}
+use Rattle.hunt.specs.Hunt.{shared, Hunting, Stopped}
 use Rattle.comparison.specs.Judged.{Found}
 use Rattle.comparison.proofs.Complete.{first-row, row-word, row-side, no-row}
-use Rattle.search.proofs.BothLaws.{paired-sizes, paired-thin, paired-bits}
-use Rattle.search.proofs.HuntLaws.{hunting-start, stopped-bound}
+use Rattle.hunt.proofs.BothLaws.{paired-sizes, paired-thin, paired-bits}
+use Rattle.hunt.proofs.HuntLaws.{hunting-start, stopped-bound}
 
 module _ (bs cs : List ℕ) (m : Machine) (P : Paired bs cs m) where
   abbrev a : ℕ

@@ -3,12 +3,12 @@ ghost use mathlib.Core.Path.{_≡_};
 ghost use lib.ListN.{length};
 ghost use Rattle.trail.specs.Trail.{trailSize};
 ghost use Rattle.record.specs.Record.{lettersOf, WellFormed, automatonOf};
-ghost use Rattle.search.specs.Both.{Paired};
+ghost use Rattle.hunt.specs.Both.{Paired};
 ghost use Rattle.comparison.specs.Judged.{Judged};
+use hunt::Hunt;
 use record::FINAL_AT;
 use record::INITIAL_AT;
 use rows::Machine;
-use search::Hunt;
 use trail::Trail;
 
 // The sizes, the initial row and the final column of two records side by side.

@@ -5,9 +5,8 @@ ghost use lib.ListN.{length};
 ghost use Rattle.rows.specs.Row.{mask};
 ghost use Rattle.rows.specs.Table.{blocks};
 ghost use Rattle.rows.specs.Product.{product};
-ghost use Rattle.rows.specs.Beside.{beside};
 ghost use Rattle.record.specs.Record.{statesOf, lettersOf, rowAt, WellFormed};
-ghost use Rattle.products.specs.Lines.{Upto, Letters, Both};
+ghost use Rattle.products.specs.Lines.{Upto, Letters};
 use kernels::Four;
 use kernels::Line;
 use kernels::Two;
@@ -24,7 +23,7 @@ pub fn row_at(bytes: &[u8], n: usize, l: usize, i: usize) -> Row
 }
 
 // The row x times the matrix of letter l.
-fn times_one(bytes: &[u8], l: usize, x: Row) -> Row
+pub fn times_one(bytes: &[u8], l: usize, x: Row) -> Row
     requires { ⌜ WellFormed (now bytes) × (l < lettersOf (now bytes)) × (mask x < 2 ^ statesOf (now bytes)) ⌝ }
     ensures { λ r. ⌜ mask r ≡ product (statesOf (now (bytes .entry))) (mask x) (rowAt (now (bytes .entry)) l) ⌝ }
 {
@@ -40,7 +39,7 @@ fn times_one(bytes: &[u8], l: usize, x: Row) -> Row
 }
 
 // The row x times the matrices of letters l and l + 1, in one pass over the bits of x.
-fn times_two(bytes: &[u8], l: usize, x: Row) -> Two
+pub fn times_two(bytes: &[u8], l: usize, x: Row) -> Two
     requires { ⌜ WellFormed (now bytes) × (l + 2 ≤ lettersOf (now bytes)) × (mask x < 2 ^ statesOf (now bytes)) ⌝ }
     ensures { λ r. ⌜ (mask (r .first) ≡ product (statesOf (now (bytes .entry))) (mask x) (rowAt (now (bytes .entry)) l)) × (mask (r .second) ≡ product (statesOf (now (bytes .entry))) (mask x) (rowAt (now (bytes .entry)) (l + 1))) ⌝ }
 {
@@ -125,7 +124,7 @@ fn put_four(bytes: &[u8], l: usize, x: Row, s: &mut Line)
 }
 
 // The row x times the matrix of every letter, into a line.
-fn times_all(bytes: &[u8], x: Row, s: &mut Line)
+pub fn times_all(bytes: &[u8], x: Row, s: &mut Line)
     requires { ⌜ WellFormed (now bytes) × (mask x < 2 ^ statesOf (now bytes)) × (length (now s) ≡ blocks) ⌝ }
     ensures { λ _. ⌜ Letters (now (bytes .entry)) (mask x) (now (s .exit)) ⌝ }
 {
@@ -140,95 +139,4 @@ fn times_all(bytes: &[u8], x: Row, s: &mut Line)
         return;
     }
     put_four(bytes, 4, x, s);
-}
-
-// The row x times the matrix of letter l of two records side by side.
-fn times_pair(first: &[u8], second: &[u8], l: usize, x: Row) -> Row
-    requires { ⌜ WellFormed (now first) × WellFormed (now second) × (lettersOf (now second) ≡ lettersOf (now first)) × (l < lettersOf (now first)) × (mask x < 2 ^ (statesOf (now first) + statesOf (now second))) ⌝ }
-    ensures { λ r. ⌜ mask r ≡ product (statesOf (now (first .entry)) + statesOf (now (second .entry))) (mask x) (beside (rowAt (now (first .entry))) (rowAt (now (second .entry))) (statesOf (now (first .entry))) l) ⌝ }
-{
-    let n = record::size(first[5]);
-    let h = rows::lowered(x, n);
-    let low = rows::xor(x, rows::moved(h, n));
-    let y = times_one(first, l, low);
-    let z = times_one(second, l, h);
-    rows::xor(y, rows::moved(z, n))
-}
-
-// The row x times the matrices of both letters of two records side by side, into a line.
-fn times_two_both(first: &[u8], second: &[u8], x: Row, s: &mut Line)
-    requires { ⌜ WellFormed (now first) × WellFormed (now second) × (lettersOf (now second) ≡ lettersOf (now first)) × (lettersOf (now first) ≡ 2) × (mask x < 2 ^ (statesOf (now first) + statesOf (now second))) × (length (now s) ≡ blocks) ⌝ }
-    ensures { λ _. ⌜ Both (now (first .entry)) (now (second .entry)) (mask x) (now (s .exit)) ⌝ }
-{
-    let n = record::size(first[5]);
-    let h = rows::lowered(x, n);
-    let low = rows::xor(x, rows::moved(h, n));
-    let y = times_two(first, 0, low);
-    let z = times_two(second, 0, h);
-    kernels::put(s, 0, rows::xor(y.first, rows::moved(z.first, n)));
-    kernels::put(s, 1, rows::xor(y.second, rows::moved(z.second, n)));
-}
-
-// The row x times the matrix of every letter of two records side by side, into a line: a line for each, then both merged.
-fn times_lines(first: &[u8], second: &[u8], x: Row, s: &mut Line)
-    requires { ⌜ WellFormed (now first) × WellFormed (now second) × (lettersOf (now second) ≡ lettersOf (now first)) × (mask x < 2 ^ (statesOf (now first) + statesOf (now second))) × (length (now s) ≡ blocks) ⌝ }
-    ensures { λ _. ⌜ Both (now (first .entry)) (now (second .entry)) (mask x) (now (s .exit)) ⌝ }
-{
-    let n = record::size(first[5]);
-    let a = record::size(first[6]);
-    let h = rows::lowered(x, n);
-    let low = rows::xor(x, rows::moved(h, n));
-    let mut t = [0u64; 8];
-    times_all(first, low, s);
-    times_all(second, h, &mut t);
-    let mut l = 0;
-    while l < a {
-        let y = kernels::pick(&t, l);
-        let z = rows::moved(y, n);
-        kernels::put(s, l, rows::xor(kernels::pick(s, l), z));
-        l += 1;
-    }
-}
-
-// The same, each letter by itself.
-fn times_each(first: &[u8], second: &[u8], x: Row, s: &mut Line)
-    requires { ⌜ WellFormed (now first) × WellFormed (now second) × (lettersOf (now second) ≡ lettersOf (now first)) × (mask x < 2 ^ (statesOf (now first) + statesOf (now second))) × (length (now s) ≡ blocks) ⌝ }
-    ensures { λ _. ⌜ Both (now (first .entry)) (now (second .entry)) (mask x) (now (s .exit)) ⌝ }
-{
-    let a = record::size(first[6]);
-    let mut l = 0;
-    while l < a {
-        kernels::put(s, l, times_pair(first, second, l, x));
-        l += 1;
-    }
-}
-
-// Whether x has at most two bits, as a row of two deterministic machines side by side has. It decides how products are made and not what
-// they are, so that it promises nothing.
-fn is_sparse(x: Row) -> bool {
-    if rows::is_none(x) {
-        return true;
-    }
-    let y = rows::clear_lowest(x);
-    if rows::is_none(y) {
-        return true;
-    }
-    rows::is_none(rows::clear_lowest(y))
-}
-
-// The same: over two letters there are no lines to merge, and a row of few bits does not need them.
-pub fn times_both(first: &[u8], second: &[u8], x: Row, s: &mut Line)
-    requires { ⌜ WellFormed (now first) × WellFormed (now second) × (lettersOf (now second) ≡ lettersOf (now first)) × (mask x < 2 ^ (statesOf (now first) + statesOf (now second))) × (length (now s) ≡ blocks) ⌝ }
-    ensures { λ _. ⌜ Both (now (first .entry)) (now (second .entry)) (mask x) (now (s .exit)) ⌝ }
-{
-    let a = record::size(first[6]);
-    if a == 2 {
-        times_two_both(first, second, x, s);
-        return;
-    }
-    if is_sparse(x) {
-        times_each(first, second, x, s);
-        return;
-    }
-    times_lines(first, second, x, s);
 }

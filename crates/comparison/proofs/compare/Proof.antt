@@ -9,10 +9,10 @@ use Rattle.rows.specs.Row.{mask}
 use Rattle.record.specs.Bytes.{number}
 use Rattle.record.specs.Record.{rowBytes, finalAt, statesOf}
 use Rattle.record.proofs.Refusals.{good-check}
-use Rattle.search.specs.Both.{besideOf}
-use Rattle.search.specs.Hunt.{shared}
-use Rattle.search.proofs.BothLaws.{field-below, paired-sizes, paired-initial}
-use Rattle.search.proofs.HuntLaws.{stopped-bound}
+use Rattle.hunt.specs.Both.{besideOf}
+use Rattle.hunt.specs.Hunt.{shared}
+use Rattle.hunt.proofs.BothLaws.{field-below, paired-sizes, paired-initial}
+use Rattle.hunt.proofs.HuntLaws.{stopped-bound}
 use Rattle.comparison.proofs.JudgeLaws.{judged-same, judged-none, judged-differs, judged-empty}
 use borrow.Author.Needs.{needs}
 use Rattle.comparison.proofs.compare.Statement.{statement}

@@ -9,7 +9,7 @@ use Rattle.rows.specs.Row.{width, mask}
 use Rattle.rows.proofs.BesideLaws.{moved-fits}
 use Rattle.record.specs.Record.{WellFormed, statesOf}
 use Rattle.record.proofs.Refusals.{good-check}
-use Rattle.search.proofs.BothLaws.{field-below}
+use Rattle.hunt.proofs.BothLaws.{field-below}
 use borrow.Author.Needs.{needs}
 use Rattle.comparison.proofs.paired.Statement.{statement}
 use Rattle.comparison.proofs.paired.Tie as tie

@@ -2,9 +2,9 @@
 use native.Mathlib.Omega.{arith}
 use denote.Ref.{now}
 use Rattle.rows.specs.Row.{mask}
-use Rattle.search.specs.Both.{besideOf}
-use Rattle.search.proofs.BothLaws.{paired-sizes, paired-initial}
-use Rattle.search.proofs.HuntLaws.{hunting-start}
+use Rattle.hunt.specs.Both.{besideOf}
+use Rattle.hunt.proofs.BothLaws.{paired-sizes, paired-initial}
+use Rattle.hunt.proofs.HuntLaws.{hunting-start}
 use Rattle.search.proofs.first_accepted.Statement.{statement}
 use Rattle.search.proofs.first_accepted.Tie as tie
 

@@ -9,10 +9,10 @@ use Rattle.rows.specs.Table.{at}
 use Rattle.rows.specs.Product.{product}
 use Rattle.kernels.specs.Products.{Products}
 use Rattle.reduction.proofs.TableSearch.{count-bound, found-low}
-use Rattle.search.specs.Both.{besideOf}
-use Rattle.search.specs.Hunt.{Hunting}
-use Rattle.search.proofs.BothLaws.{paired-sizes}
-use Rattle.search.proofs.HuntLaws.{hunting-next}
+use Rattle.hunt.specs.Both.{besideOf}
+use Rattle.hunt.specs.Hunt.{Hunting}
+use Rattle.hunt.proofs.BothLaws.{paired-sizes}
+use Rattle.hunt.proofs.HuntLaws.{hunting-next}
 use Rattle.search.proofs.try_row.Statement.{statement}
 use Rattle.search.proofs.try_row.Tie as tie
 

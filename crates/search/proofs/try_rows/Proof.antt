@@ -6,9 +6,9 @@ use borrow.Author.Needs.{needs}
 use denote.Ref.{now}
 use Rattle.rows.specs.Row.{width, mask}
 use Rattle.reduction.proofs.TableSearch.{count-bound}
-use Rattle.search.specs.Both.{besideOf}
-use Rattle.search.specs.Hunt.{Hunting}
-use Rattle.search.proofs.BothLaws.{paired-sizes}
+use Rattle.hunt.specs.Both.{besideOf}
+use Rattle.hunt.specs.Hunt.{Hunting}
+use Rattle.hunt.proofs.BothLaws.{paired-sizes}
 use Rattle.search.proofs.try_rows.Statement.{statement}
 use Rattle.search.proofs.try_rows.Tie as tie
 

@@ -1,0 +1,2 @@
+-- The definitions that the contracts of the search over one letter cite.
+pub mod Chain

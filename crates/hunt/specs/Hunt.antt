@@ -1,0 +1,72 @@
+-- The search for the first accepted row, which stops there. The automaton has the rows M, n states, initial row i and final column f over
+-- a letters; the basis is the table b, the trail w.
+--   shared      whether two rows of n bits share an odd number of them
+--   Hunting     no row found is accepted; the next pair is row k by letter l
+--   Stopped     row r is the first row found that is accepted
+--   Hunted      what a step of the search comes to, from d rows on
+--   Last        if row k is found, it is the last of the d rows found, and x
+--   Grown       a row that the step finds is its product y, and the last one
+--   Started     the initial row i is placed in the empty basis; block 2 stays
+use mathlib.Core.Path.{_≡_}
+use mathlib.Core.Bool.{Bool, true, false, _&&_}
+use mathlib.Core.List.{List}
+use Prim.Native.Nat.{ℕ, _+_, _<_, _≤_}
+use lib.ListN.{length}
+use Rattle.automata.specs.Xor.{xorBelow}
+use Rattle.automata.specs.Mask.{bitOf}
+use Rattle.rows.specs.Row.{width, mask}
+use Rattle.rows.specs.Table.{at}
+use Rattle.basis.specs.Basis.{basisSize}
+use Rattle.trail.specs.Trail.{trailSize, fromIn, byIn}
+use Rattle.elimination.specs.Place.{Covered, Placed}
+use Rattle.reduction.specs.Tables.{SearchIn, accepted}
+use Rattle.hunt.specs.declared.Hunt.{Hunt}
+use Rattle.hunt.specs.declared.Hunt.the-variants.{Going, Found}
+
+abbrev pub shared : ℕ → ℕ → ℕ → Bool
+shared n x y = xorBelow n (λ j. bitOf x j && bitOf y j)
+
+-- The coefficients and the products done are in no table: `coef` and `made` name them.
+pub record Hunting (a : ℕ) (M : ℕ → ℕ → ℕ) (n i f : ℕ) (b w : List ℕ) (d k l p v : ℕ) : Type 0 where
+  pub coef : ℕ → ℕ → Bool
+  pub made : ℕ → ℕ → ℕ → Bool
+  pub search : SearchIn a M n i f b coef (fromIn w) (byIn w) made d k l p
+  pub cover : Covered d v b
+  pub base : length b ≡ basisSize
+  pub trail : length w ≡ trailSize
+  pub none : (r : ℕ) → r < d → accepted n b f r ≡ false
+
+pub record Stopped (a : ℕ) (M : ℕ → ℕ → ℕ) (n i f : ℕ) (b w : List ℕ) (r : ℕ) : Type 0 where
+  pub coef : ℕ → ℕ → Bool
+  pub made : ℕ → ℕ → ℕ → Bool
+  pub count : ℕ
+  pub upto : ℕ
+  pub next : ℕ
+  pub pivots : ℕ
+  pub search : SearchIn a M n i f b coef (fromIn w) (byIn w) made count upto next pivots
+  pub inside : (r < count) × (upto < count) × (next ≤ a)
+  pub found : accepted n b f r ≡ true
+  pub first : (q : ℕ) → q < r → accepted n b f q ≡ false
+
+abbrev pub Hunted : ℕ → (ℕ → ℕ → ℕ) → ℕ → ℕ → ℕ → List ℕ → List ℕ → ℕ → ℕ → ℕ → Hunt → Type 0
+Hunted a M n i f b w d k l (Going s) = Hunting a M n i f b w (s .count) k l (mask (s .pivots)) (mask (s .used)) × (d ≤ s .count)
+Hunted a M n i f b w d k l (Found r) = Stopped a M n i f b w r
+
+abbrev pub Last : ℕ → ℕ → ℕ → List ℕ → Type 0
+Last k x d b = k < d → (d ≡ k + 1) × (at b 1 k ≡ x)
+
+abbrev pub Grown : ℕ → ℕ → List ℕ → Hunt → Type 0
+Grown d y b (Going s) = Last d y (s .count) b
+Grown d y b (Found r) = Unit
+
+-- Every pair is done, or the search stopped.
+abbrev pub Ended : ℕ → (ℕ → ℕ → ℕ) → ℕ → ℕ → ℕ → List ℕ → List ℕ → Hunt → Type 0
+Ended a M n i f b w (Going s) = Hunting a M n i f b w (s .count) (s .count) 0 (mask (s .pivots)) (mask (s .used))
+Ended a M n i f b w (Found r) = Stopped a M n i f b w r
+
+pub record Started (n i : ℕ) (b b′ : List ℕ) (d p v : ℕ) : Type 0 where
+  pub coef : ℕ → ℕ → Bool
+  pub coef′ : ℕ → ℕ → Bool
+  pub made : ℕ → Bool
+  pub placed : Placed n 0 0 0 i coef coef′ made b b′ d p v
+  pub kept : (j : ℕ) → j < width → at b′ 2 j ≡ at b 2 j

@@ -1,0 +1,3 @@
+-- The definitions that the contracts of the search cite.
+pub mod Both
+pub mod Hunt

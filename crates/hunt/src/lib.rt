@@ -1,0 +1,68 @@
+// The search for the first accepted row of two records side by side: what it has come to, where it starts, and its one step.
+ghost use mathlib.Core.Path.{_≡_};
+ghost use Prim.Native.Nat.{ℕ, _+_, _^_, _≤_, _<_};
+ghost use lib.ListN.{length};
+ghost use Rattle.rows.specs.Row.{width, mask};
+ghost use Rattle.rows.specs.Table.{at};
+ghost use Rattle.rows.specs.Product.{product};
+ghost use Rattle.basis.specs.Basis.{basisSize};
+ghost use Rattle.hunt.specs.Both.{besideOf, Paired};
+ghost use Rattle.hunt.specs.Hunt.{Hunting, Hunted, Grown, Started};
+use basis::Basis;
+use elimination::Size;
+use rows::Machine;
+use rows::Row;
+use trail::Trail;
+
+// What the search for an accepted row has come to: the rows found so far, none of them accepted, or the first accepted row.
+pub enum Hunt {
+    Going(Size),
+    Found(usize),
+}
+
+// Row k by letter l, whose product is y; a new row that the final column accepts ends the search.
+pub fn try_pair(
+    first: &[u8],
+    second: &[u8],
+    m: Machine,
+    b: &mut Basis,
+    w: &mut Trail,
+    y: Row,
+    s: Size,
+    k: usize,
+    l: usize,
+) -> Hunt
+    requires { ⌜ Paired (now first) (now second) m × Hunting (m .letters) (besideOf (now first) (now second)) (m .states) (mask (m .initial)) (mask (m .finals)) (now b) (now w) (s .count) k l (mask (s .pivots)) (mask (s .used)) × (k < s .count) × (l < m .letters) × (mask y ≡ product (m .states) (at (now b) 1 k) (besideOf (now first) (now second) l)) ⌝ }
+    ensures { λ r. ⌜ Hunted (m .letters) (besideOf (now (first .entry)) (now (second .entry))) (m .states) (mask (m .initial)) (mask (m .finals)) (now (b .exit)) (now (w .exit)) (s .count) k (l + 1) r × (at (now (b .exit)) 1 k ≡ at (now (b .entry)) 1 k) × ((i : ℕ) → i < width → at (now (b .exit)) 2 i ≡ at (now (b .entry)) 2 i) × Grown (s .count) (mask y) (now (b .exit)) r ⌝ }
+{
+    let d = s.count;
+    let f = m.finals;
+    let next = elimination::insert(b, m.states, s, y);
+    if next.count <= d {
+        return Hunt::Going(next);
+    }
+    trail::link(w, d, k, l);
+    if rows::parity(y, f) {
+        return Hunt::Found(d);
+    }
+    Hunt::Going(next)
+}
+
+// The initial row is the first row found, unless it has no bits.
+pub fn start(b: &mut Basis, m: Machine) -> Size
+    requires { ⌜ (m .states ≤ width) × (mask (m .initial) < 2 ^ m .states) × (length (now b) ≡ basisSize) ⌝ }
+    ensures { λ r. ⌜ Started (m .states) (mask (m .initial)) (now (b .entry)) (now (b .exit)) (r .count) (mask (r .pivots)) (mask (r .used)) ⌝ }
+{
+    let none = rows::none();
+    let i = m.initial;
+    elimination::insert(
+        b,
+        m.states,
+        Size {
+            count: 0,
+            pivots: none,
+            used: none,
+        },
+        i,
+    )
+}

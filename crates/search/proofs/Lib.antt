@@ -1,3 +1,0 @@
-pub mod BothLaws
-pub mod HuntLaws
-pub mod ChainLaws

@@ -1,4 +1,0 @@
--- The definitions that the contracts of the search cite.
-pub mod Both
-pub mod Chain
-pub mod Hunt
