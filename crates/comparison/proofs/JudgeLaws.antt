@@ -4,7 +4,7 @@ use mathlib.Core.Bool.{Bool, true, false, _&&_, and-comm}
 use mathlib.Core.List.{List, [], _∷_}
 use mathlib.Core.Logic.{inl, inr}
 use mathlib.Core.Option.{none}
-use Prim.Native.Nat.{ℕ, _<_, _≤_}
+use Prim.Native.Nat.{ℕ, _^_, _<_, _≤_}
 use native.Mathlib.Nat.{not-suc-le-zero}
 use native.Mathlib.Omega.{arith}
 use lib.ListN.{length, replicate, length-replicate}
@@ -27,13 +27,17 @@ use Rattle.basis.specs.Basis.{basisSize}
 use Rattle.trail.specs.Trail.{trailSize, fromIn, byIn}
 use Rattle.elimination.specs.Place.{Placed}
 use Rattle.record.specs.Bytes.{number}
-use Rattle.record.specs.Record.{rowBytes, finalAt, statesOf, lettersOf, automatonOf}
+use Rattle.record.specs.Record.{rowBytes, finalAt, statesOf, lettersOf, WellFormed, automatonOf}
 use Rattle.hunt.specs.Both.{besideOf, Paired}
 use Rattle.hunt.specs.Hunt.{shared, Hunting, Stopped}
 use Rattle.comparison.specs.Judged.{Found}
 use Rattle.comparison.proofs.Complete.{first-row, row-word, row-side, no-row}
-use Rattle.hunt.proofs.BothLaws.{paired-sizes, paired-thin, paired-bits}
+use Rattle.hunt.proofs.BothLaws.{field-below, paired-sizes, paired-thin, paired-bits}
 use Rattle.hunt.proofs.HuntLaws.{hunting-start, stopped-bound}
+
+-- The first record's final column g against a row y.
+pub side-told : (bs : List ℕ) → WellFormed bs → (g y : ℕ) (r : Bool) → g ≡ number rowBytes bs finalAt → ((n : ℕ) → g < 2 ^ n → r ≡ shared n g y) → r ≡ shared (statesOf bs) (number rowBytes bs finalAt) y
+side-told bs good g y r e h = h (statesOf bs) (subst (λ x. x < 2 ^ statesOf bs) (sym e) (field-below bs good .1)) ∙ ap (λ x. shared (statesOf bs) x y) e
 
 module _ (bs cs : List ℕ) (m : Machine) (P : Paired bs cs m) where
   abbrev a : ℕ

@@ -1,2 +1,4 @@
 pub mod Complete
 pub mod JudgeLaws
+pub mod Unary
+pub mod UnaryLaws

@@ -1,14 +1,19 @@
 // The comparison of two well-formed records over the same letters: the first row that just one accepts, and which.
 ghost use mathlib.Core.Path.{_≡_};
+ghost use mathlib.Core.Bool.{false};
 ghost use lib.ListN.{length};
+ghost use Rattle.rows.specs.Row.{mask};
 ghost use Rattle.trail.specs.Trail.{trailSize};
-ghost use Rattle.record.specs.Record.{lettersOf, WellFormed, automatonOf};
+ghost use Rattle.record.specs.Bytes.{number};
+ghost use Rattle.record.specs.Record.{rowBytes, finalAt, lettersOf, WellFormed, automatonOf};
 ghost use Rattle.hunt.specs.Both.{Paired};
+ghost use Rattle.hunt.specs.Hunt.{shared};
 ghost use Rattle.comparison.specs.Judged.{Judged};
 use hunt::Hunt;
 use record::FINAL_AT;
 use record::INITIAL_AT;
 use rows::Machine;
+use rows::Row;
 use trail::Trail;
 
 // The sizes, the initial row and the final column of two records side by side.
@@ -36,6 +41,54 @@ pub enum Verdict {
     Differs { row: usize, first: bool },
 }
 
+// Up to so many states of both records together, the rows over one letter are followed one by one.
+const FEW: usize = 8;
+
+// Over one letter there is one word of each length, and one of fewer letters than both have states tells two languages apart, if any does.
+// So the row of each is tried in turn, and no basis is needed; where the initial row comes again, all that follows was tried before.
+fn first_power(first: &[u8], second: &[u8], m: Machine, g: Row, w: &mut Trail) -> Verdict
+    requires { ⌜ Paired (now first) (now second) m × (m .letters ≡ 1) × (length (now w) ≡ trailSize) × (shared (m .states) (mask (m .initial)) (mask (m .finals)) ≡ false) × (mask g ≡ number rowBytes (now first) finalAt) ⌝ }
+    ensures { λ r. ⌜ Judged (lettersOf (now (first .entry))) (automatonOf (now (first .entry))) (automatonOf (now (second .entry))) (now (w .exit)) r ⌝ }
+{
+    let n = m.states;
+    let i = m.initial;
+    let f = m.finals;
+    let mut y = i;
+    let mut k: usize = 0;
+    while k + 1 < n {
+        y = pair_products::times_pair(first, second, 0, y);
+        trail::link(w, k + 1, k, 0);
+        if rows::parity(y, f) {
+            return Verdict::Differs {
+                row: k + 1,
+                first: rows::parity(g, y),
+            };
+        }
+        if rows::is_none(rows::xor(y, i)) {
+            return Verdict::Same;
+        }
+        k += 1;
+    }
+    Verdict::Same
+}
+
+// The search over both side by side for the first row that just one accepts.
+fn first_row(first: &[u8], second: &[u8], m: Machine, g: Row, w: &mut Trail) -> Verdict
+    requires { ⌜ Paired (now first) (now second) m × (length (now w) ≡ trailSize) × (shared (m .states) (mask (m .initial)) (mask (m .finals)) ≡ false) × (mask g ≡ number rowBytes (now first) finalAt) ⌝ }
+    ensures { λ r. ⌜ Judged (lettersOf (now (first .entry))) (automatonOf (now (first .entry))) (automatonOf (now (second .entry))) (now (w .exit)) r ⌝ }
+{
+    let mut b = [0u64; 192];
+    let found = search::first_accepted(first, second, m, &mut b, w);
+    let Hunt::Found(r) = found else {
+        return Verdict::Same;
+    };
+    let x = basis::get(&b, 1, r);
+    Verdict::Differs {
+        row: r,
+        first: rows::parity(g, x),
+    }
+}
+
 // Compares the words of two well-formed records over the same letters; w is left with the words of the rows found.
 pub fn compare(first: &[u8], second: &[u8], w: &mut Trail) -> Verdict
     requires { ⌜ WellFormed (now first) × WellFormed (now second) × (lettersOf (now first) ≡ lettersOf (now second)) × (length (now w) ≡ trailSize) ⌝ }
@@ -51,18 +104,17 @@ pub fn compare(first: &[u8], second: &[u8], w: &mut Trail) -> Verdict
             first: rows::parity(g, i),
         };
     }
-    // Nor for two that accept no word, as no state is initial.
+    // Nor for two that accept no word, as no state is initial, or none is final.
     if rows::is_none(i) {
         return Verdict::Same;
     }
-    let mut b = [0u64; 192];
-    let found = search::first_accepted(first, second, m, &mut b, w);
-    let Hunt::Found(r) = found else {
+    if rows::is_none(m.finals) {
         return Verdict::Same;
-    };
-    let x = basis::get(&b, 1, r);
-    Verdict::Differs {
-        row: r,
-        first: rows::parity(g, x),
     }
+    if m.letters == 1 {
+        if m.states <= FEW {
+            return first_power(first, second, m, g, w);
+        }
+    }
+    first_row(first, second, m, g, w)
 }

@@ -12,7 +12,7 @@ use kernels::Line;
 use rows::Row;
 
 // The row x times the matrix of letter l of two records side by side.
-fn times_pair(first: &[u8], second: &[u8], l: usize, x: Row) -> Row
+pub fn times_pair(first: &[u8], second: &[u8], l: usize, x: Row) -> Row
     requires { ⌜ WellFormed (now first) × WellFormed (now second) × (lettersOf (now second) ≡ lettersOf (now first)) × (l < lettersOf (now first)) × (mask x < 2 ^ (statesOf (now first) + statesOf (now second))) ⌝ }
     ensures { λ r. ⌜ mask r ≡ product (statesOf (now (first .entry)) + statesOf (now (second .entry))) (mask x) (beside (rowAt (now (first .entry))) (rowAt (now (second .entry))) (statesOf (now (first .entry))) l) ⌝ }
 {

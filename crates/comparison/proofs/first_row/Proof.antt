@@ -1,0 +1,67 @@
+-- `first_row`: the search over both side by side, and the side that accepts the row found.
+use mathlib.Core.Path.{refl, ap, _∙_}
+use native.Mathlib.Omega.{arith}
+use denote.Ref.{now}
+use Rattle.rows.specs.Row.{mask}
+use Rattle.record.specs.Bytes.{number}
+use Rattle.record.specs.Record.{rowBytes, finalAt, statesOf}
+use Rattle.hunt.specs.Both.{besideOf}
+use Rattle.hunt.specs.Hunt.{shared}
+use Rattle.hunt.proofs.BothLaws.{paired-sizes}
+use Rattle.hunt.proofs.HuntLaws.{stopped-bound}
+use Rattle.comparison.proofs.JudgeLaws.{side-told, judged-same, judged-differs}
+use borrow.Author.Needs.{needs}
+use Rattle.comparison.proofs.first_row.Statement.{statement}
+use Rattle.comparison.proofs.first_row.Tie as tie
+
+first-accepted-requires : tie.Need-first-accepted-requires
+first-accepted-requires c κs = let s = c .before .before .before .before in (s .pre .0, refl, s .pre .1, s .pre .2)
+
+enum-known-found : tie.Need-enum-known-found
+enum-known-found c = search needs
+
+enum-told : tie.Need-enum-told
+enum-told c = search needs
+
+returns : tie.Need-returns
+returns c =
+    let s = c .before .before .before .before .before .before .before in
+    let a = s .args in
+    let f = c .before .before .first-accepted in
+    let z = c .enum-told .given .0 .0 in
+    judged-same (now (a .first)) (now (a .second)) (a .m) (s .pre .0) (f .last .1 .1 .1 .0) (f .last .1 .1 .1 .1 .0) (z .count) (mask (z .pivots)) (mask (z .used)) (rw (c .enum-told .given .1) at (f .ensures))
+
+get-requires : tie.Need-get-requires
+get-requires c κs =
+    let s = c .before .before .before .before .before .before .before .before .before in
+    let a = s .args in
+    let m = a .m in
+    let bs = now (a .first) in
+    let cs = now (a .second) in
+    let f = c .before .before .before .before .first-accepted in
+    (omega arith, stopped-bound (m .letters) (besideOf bs cs) (m .states) (mask (m .initial)) (mask (m .finals)) (f .last .1 .1 .1 .0) (f .last .1 .1 .1 .1 .0) (c .before .before .found .given .0 .0) (paired-sizes bs cs m (s .pre .0) .1) (rw (c .before .before .found .given .1) at (f .ensures)))
+
+parity-requires : tie.Need-parity-requires
+parity-requires c κs = search needs
+
+returns-2 : tie.Need-returns-2
+returns-2 c =
+    let s = c .before .before .before .before .before .before .before .before .before .before .before in
+    let a = s .args in
+    let bs = now (a .first) in
+    let f = c .before .before .before .before .before .before .first-accepted in
+    judged-differs bs (now (a .second)) (a .m) (s .pre .0) (f .last .1 .1 .1 .0) (f .last .1 .1 .1 .1 .0) (c .before .before .before .before .found .given .0 .0) (c .parity .result)
+    (side-told bs (s .pre .0 .first) (mask (a .g)) (mask (c .before .get .result)) (c .parity .result) (s .pre .3) (c .parity .ensures) ∙ ap (shared (statesOf bs) (number rowBytes bs finalAt)) (c .before .get .ensures))
+    (rw (c .before .before .before .before .found .given .1) at (f .ensures))
+
+pub first-row-spec : {M : Type 1} → statement M
+first-row-spec =
+    tie.close
+    (tie.spec
+    first-accepted-requires
+    enum-known-found
+    enum-told
+    returns
+    get-requires
+    parity-requires
+    returns-2)
