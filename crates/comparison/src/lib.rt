@@ -1,6 +1,7 @@
 // The comparison of two well-formed records over the same letters: the first row that just one accepts, and which.
 ghost use mathlib.Core.Path.{_≡_};
 ghost use mathlib.Core.Bool.{false};
+ghost use Prim.Native.Nat.{_≤_};
 ghost use lib.ListN.{length};
 ghost use Rattle.rows.specs.Row.{mask};
 ghost use Rattle.trail.specs.Trail.{trailSize};
@@ -39,6 +40,29 @@ fn paired(first: &[u8], second: &[u8]) -> Machine
 pub enum Verdict {
     Same,
     Differs { row: usize, first: bool },
+}
+
+// Two records of at most two states together: a word of at most one letter tells their languages apart, if any does.
+fn first_letter(first: &[u8], second: &[u8], m: Machine, g: Row, w: &mut Trail) -> Verdict
+    requires { ⌜ Paired (now first) (now second) m × (m .states ≤ 2) × (length (now w) ≡ trailSize) × (shared (m .states) (mask (m .initial)) (mask (m .finals)) ≡ false) × (mask g ≡ number rowBytes (now first) finalAt) ⌝ }
+    ensures { λ r. ⌜ Judged (lettersOf (now (first .entry))) (automatonOf (now (first .entry))) (automatonOf (now (second .entry))) (now (w .exit)) r ⌝ }
+{
+    let a = m.letters;
+    let i = m.initial;
+    let f = m.finals;
+    let mut l: usize = 0;
+    while l < a {
+        let z = pair_products::times_pair(first, second, l, i);
+        if rows::parity(z, f) {
+            trail::link(w, 1, 0, l);
+            return Verdict::Differs {
+                row: 1,
+                first: rows::parity(g, z),
+            };
+        }
+        l += 1;
+    }
+    Verdict::Same
 }
 
 // Up to so many states of both records together, the rows over one letter are followed one by one.
@@ -89,6 +113,22 @@ fn first_row(first: &[u8], second: &[u8], m: Machine, g: Row, w: &mut Trail) -> 
     }
 }
 
+// The first word of one letter or more that just one accepts, by the shortest way for so many states and letters.
+fn first_longer(first: &[u8], second: &[u8], m: Machine, g: Row, w: &mut Trail) -> Verdict
+    requires { ⌜ Paired (now first) (now second) m × (length (now w) ≡ trailSize) × (shared (m .states) (mask (m .initial)) (mask (m .finals)) ≡ false) × (mask g ≡ number rowBytes (now first) finalAt) ⌝ }
+    ensures { λ r. ⌜ Judged (lettersOf (now (first .entry))) (automatonOf (now (first .entry))) (automatonOf (now (second .entry))) (now (w .exit)) r ⌝ }
+{
+    if m.states <= 2 {
+        return first_letter(first, second, m, g, w);
+    }
+    if m.letters == 1 {
+        if m.states <= FEW {
+            return first_power(first, second, m, g, w);
+        }
+    }
+    first_row(first, second, m, g, w)
+}
+
 // Compares the words of two well-formed records over the same letters; w is left with the words of the rows found.
 pub fn compare(first: &[u8], second: &[u8], w: &mut Trail) -> Verdict
     requires { ⌜ WellFormed (now first) × WellFormed (now second) × (lettersOf (now first) ≡ lettersOf (now second)) × (length (now w) ≡ trailSize) ⌝ }
@@ -111,10 +151,5 @@ pub fn compare(first: &[u8], second: &[u8], w: &mut Trail) -> Verdict
     if rows::is_none(m.finals) {
         return Verdict::Same;
     }
-    if m.letters == 1 {
-        if m.states <= FEW {
-            return first_power(first, second, m, g, w);
-        }
-    }
-    first_row(first, second, m, g, w)
+    first_longer(first, second, m, g, w)
 }

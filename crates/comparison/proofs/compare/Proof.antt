@@ -1,4 +1,4 @@
--- `compare`: the empty word, no word, the words over one letter in turn, or the search over both side by side.
+-- `compare`: the empty word, no word, or the first longer word.
 use mathlib.Core.Path.{_≡_, sym, _∙_}
 use native.Mathlib.Omega.{arith}
 use borrow.Author.Tests.{eqb-true}
@@ -8,7 +8,7 @@ use Rattle.record.proofs.Refusals.{good-check}
 use Rattle.hunt.specs.Hunt.{shared}
 use Rattle.hunt.proofs.BothLaws.{paired-initial}
 use Rattle.comparison.proofs.JudgeLaws.{side-told, judged-none, judged-empty}
-use Rattle.comparison.proofs.UnaryLaws.{judged-unaccepting}
+use Rattle.comparison.proofs.RowLaws.{judged-unaccepting}
 use borrow.Author.Needs.{needs}
 use Rattle.comparison.proofs.compare.Statement.{statement}
 use Rattle.comparison.proofs.compare.Tie as tie
@@ -64,21 +64,13 @@ returns-3 c =
     let p = c .before .before .before .before .before .before .before .before .paired in
     judged-unaccepting (now (a .first)) (now (a .second)) (p .result) (p .ensures) (eqb-true (mask (p .result .finals)) 0 (sym (c .before .is-none2 .ensures) ∙ c .if3 .taken))
 
-first-power-requires : tie.Need-first-power-requires
-first-power-requires c κs =
-    let s = c .before .before .before .before .before .before .before .before .before .before .before .before .before .before .before .before in
-    (c .before .before .before .before .before .before .before .before .before .before .before .before .before .paired .ensures, omega (arith, c .before .before .before .if4 .taken), s .pre .3, sym (told (c .before .before .before .before .before .before .before .before .before .before)) ∙ c .before .before .before .before .before .before .before .before .before .if1 .left, c .before .before .before .before .before .before .before .before .before .before .before .field-at .ensures)
+first-longer-requires : tie.Need-first-longer-requires
+first-longer-requires c κs =
+    let s = c .before .before .before .before .before .before .before .before .before .before .before .before in
+    (c .before .before .before .before .before .before .before .before .before .paired .ensures, s .pre .3, sym (told (c .before .before .before .before .before .before)) ∙ c .before .before .before .before .before .if1 .left, c .before .before .before .before .before .before .before .field-at .ensures)
 
 returns-4 : tie.Need-returns-4
 returns-4 c = search needs
-
-first-row-requires : tie.Need-first-row-requires
-first-row-requires c κs =
-    let s = c .before .before .before .before .before .before .before .before .before .before .before .before .before .before in
-    (c .before .before .before .before .before .before .before .before .before .before .before .paired .ensures, s .pre .3, sym (told (c .before .before .before .before .before .before .before .before)) ∙ c .before .before .before .before .before .before .before .if1 .left, c .before .before .before .before .before .before .before .before .before .field-at .ensures)
-
-returns-5 : tie.Need-returns-5
-returns-5 c = search needs
 
 pub compare-spec : {M : Type 1} → statement M
 compare-spec =
@@ -93,7 +85,5 @@ compare-spec =
     returns-2
     is-none-requires-2
     returns-3
-    first-power-requires
-    returns-4
-    first-row-requires
-    returns-5)
+    first-longer-requires
+    returns-4)

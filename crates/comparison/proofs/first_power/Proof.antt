@@ -1,6 +1,6 @@
 -- `first_power`: y is the row of k letters, and no word of up to k letters is accepted by just one.
-use mathlib.Core.Path.{_≡_, sym, subst, _∙_}
-use Prim.Native.Nat.{_+_, _-_, _^_, _<_}
+use mathlib.Core.Path.{_≡_, sym, _∙_}
+use Prim.Native.Nat.{suc, _+_, _-_, _<_}
 use native.Mathlib.Omega.{arith}
 use borrow.Author.Tests.{eqb-true}
 use denote.Ref.{now}
@@ -8,7 +8,9 @@ use Rattle.rows.specs.Row.{width, mask}
 use Rattle.hunt.specs.Hunt.{shared}
 use Rattle.hunt.proofs.BothLaws.{paired-sizes}
 use Rattle.comparison.proofs.JudgeLaws.{side-told}
-use Rattle.comparison.proofs.UnaryLaws.{Powers, powers-start, powers-end, powers-below, powers-found, powers-again, powers-next}
+use Rattle.comparison.proofs.Unary.{power}
+use Rattle.comparison.proofs.RowLaws.{row-below}
+use Rattle.comparison.proofs.UnaryLaws.{Powers, powers-start, powers-end, powers-row, powers-found, powers-again, powers-next}
 use Rattle.comparison.proofs.first_power.Statement.{statement}
 use Rattle.comparison.proofs.first_power.Tie as tie
 
@@ -31,7 +33,7 @@ times-pair-requires : tie.Need-times-pair-requires Inv-loop μ-loop
 times-pair-requires c κs =
     let s = c .before .before .before .before .before .before in
     let P = s .pre .0 in
-    (P .first, P .second, sym (P .same), omega (arith, P .letters, s .pre .1), c .before .loop .inv .1 .below)
+    (P .first, P .second, sym (P .same), omega (arith, P .letters, s .pre .1), c .before .loop .inv .1 .row .below)
 
 add-link : tie.Need-add-link Inv-loop μ-loop
 add-link c = omega (arith, c .before .before .before .loop .inv .0)
@@ -59,7 +61,7 @@ tried c =
     let a = s .args in
     let v = c .before .before .before .before .before .loop in
     let q = c .before .before .before .times-pair in
-    c .parity .ensures (a .m .states) (subst (λ n. mask (q .result) < 2 ^ n) (sym (s .pre .0 .states)) (powers-below (now (a .first)) (now (a .second)) (a .m) (s .pre .0) (s .pre .1) (v .w) (v .k) (mask (v .y)) (v .inv .1) (omega (arith, c .before .before .before .before .loop-test .taken)) (mask (q .result)) (q .ensures) (c .before .link .last .0) (c .before .link .ensures)))
+    c .parity .ensures (a .m .states) (row-below (now (a .first)) (now (a .second)) (a .m) (s .pre .0) (power (suc (v .k))) (mask (q .result)) (powers-row (now (a .first)) (now (a .second)) (a .m) (s .pre .0) (s .pre .1) (v .w) (v .k) (mask (v .y)) (v .inv .1) (omega (arith, c .before .before .before .before .loop-test .taken)) (mask (q .result)) (q .ensures) (c .before .link .last .0) (c .before .link .ensures)))
 
 returns : tie.Need-returns Inv-loop μ-loop
 returns c =
