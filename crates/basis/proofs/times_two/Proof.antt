@@ -1,52 +1,68 @@
 -- `times_two`: for each of the two matrices, what the bits passed have given, xor what those to come will give, is the product.
 use mathlib.Core.Path.{_≡_}
-use Prim.Native.Nat.{_-_, _^_, _≤_, _<_}
+use Prim.Native.Nat.{ℕ, _+_, _-_, _*_, _^_, _≤_, _<_}
 use native.Mathlib.Omega.{arith}
 use borrow.Author.Needs.{needs}
-use lib.Count.{trailing-le}
+use lib.ListN.{length}
+use lib.Count.{trailingZeros}
 use lib.Bits.{and-le-r}
 use Rattle.rows.specs.Row.{mask}
-use Rattle.rows.specs.Table.{at}
-use Rattle.rows.proofs.LowestBit.{lowest-set}
 use Rattle.rows.proofs.ProductLaws.{Left, left-start, left-step, left-end}
+use Rattle.basis.specs.Basis.{parts, cell}
+use Rattle.basis.proofs.BasisLaws.{block-inside, lowest-inside}
 use Rattle.basis.proofs.times_two.Statement.{statement}
 use Rattle.basis.proofs.times_two.Tie as tie
 
 abbrev Inv-loop : tie.InvT-loop
-Inv-loop b l g f h s₀ y₀ w₀ s y w = (s < 2 ^ 64) × (s ≤ s₀) × Left (at b l) s₀ s y × Left (at b g) s₀ s w
+Inv-loop b stride l g f h s₀ y₀ w₀ s y w = (s < 2 ^ 64) × (s ≤ s₀) × Left (cell stride b l) s₀ s y × Left (cell stride b g) s₀ s w
 
 abbrev μ-loop : tie.MeasureT-loop
-μ-loop b l g f h s₀ y₀ w₀ s y w = s
+μ-loop b stride l g f h s₀ y₀ w₀ s y w = s
 
 mul-f : tie.Need-mul-f Inv-loop μ-loop
-mul-f c = omega arith
+mul-f c = let a = c .args in record { fits = omega (arith, block-inside (a .stride) (a .l) (a .b .now) (c .pre .0) (c .pre .1)) }
 
 mul-h : tie.Need-mul-h Inv-loop μ-loop
-mul-h c = omega arith
+mul-h c = let a = c .args in record { fits = omega (arith, block-inside (a .stride) (a .g) (a .b .now) (c .pre .0) (c .pre .2)) }
 
 loop-holds : tie.Need-loop-holds Inv-loop μ-loop
 loop-holds c = (search needs, omega arith, left-start _ _, left-start _ _)
 
+-- The row of a block at the lowest bit to come has its place.
+place : (c : tie.In-loop Inv-loop μ-loop) (l : ℕ) → l < parts → l * c .before .before .args .stride + trailingZeros 64 (c .before .loop .s) < length (c .before .before .args .b .now)
+unfolding mask
+place c l h =
+    let s = c .before .before in
+    let a = s .args in
+    let v = c .before .loop in
+    lowest-inside (a .stride) l (a .x .bits) 64 (v .s) (a .b .now) (s .pre .0) h (s .pre .3) (omega arith) (v .inv .1) (v .inv .0)
+
+place-y : (c : tie.In-loop Inv-loop μ-loop) → c .before .before .args .l * c .before .before .args .stride + trailingZeros 64 (c .before .loop .s) < length (c .before .before .args .b .now)
+place-y c = place c (c .before .before .args .l) (c .before .before .pre .1)
+
+place-w : (c : tie.In-loop Inv-loop μ-loop) → c .before .before .args .g * c .before .before .args .stride + trailingZeros 64 (c .before .loop .s) < length (c .before .before .args .b .now)
+place-w c = place c (c .before .before .args .g) (c .before .before .pre .2)
+
 cast-q : tie.Need-cast-q Inv-loop μ-loop
-cast-q c = record { fits = omega (arith, trailing-le 64 (c .before .loop .s)) }
+cast-q c = record { fits = omega (arith, place-y c) }
 
 add-y : tie.Need-add-y Inv-loop μ-loop
-add-y c = omega (arith, trailing-le 64 (c .before .loop .s))
+add-y c = record { fits = omega (arith, place-y c) }
 
 mul-y : tie.Need-mul-y Inv-loop μ-loop
-mul-y c = omega (arith, lowest-set 64 (c .before .loop .s) (omega arith) (c .before .loop .inv .0) .0)
+mul-y c = record { fits = omega (arith, place-y c) }
 
-element-copy-out-y : tie.Need-element-copy-out-y Inv-loop μ-loop
-element-copy-out-y c = omega (arith, lowest-set 64 (c .before .loop .s) (omega arith) (c .before .loop .inv .0) .0)
+shared-slice-read-y : tie.Need-shared-slice-read-y Inv-loop μ-loop
+shared-slice-read-y c = place-y (c .before)
 
 add-w : tie.Need-add-w Inv-loop μ-loop
-add-w c = omega (arith, trailing-le 64 (c .before .before .loop .s))
+add-w c = record { fits = omega (arith, place-w (c .before)) }
 
 mul-w : tie.Need-mul-w Inv-loop μ-loop
-mul-w c = omega (arith, lowest-set 64 (c .before .before .loop .s) (omega arith) (c .before .before .loop .inv .0) .0)
+mul-w c = record { fits = omega (arith, place-w (c .before)) }
 
-element-copy-out-w : tie.Need-element-copy-out-w Inv-loop μ-loop
-element-copy-out-w c = omega (arith, lowest-set 64 (c .before .before .loop .s) (omega arith) (c .before .before .loop .inv .0) .0)
+shared-slice-read-w : tie.Need-shared-slice-read-w Inv-loop μ-loop
+shared-slice-read-w c = place-w (c .before .before)
 
 sub-s : tie.Need-sub-s Inv-loop μ-loop
 sub-s c = omega arith
@@ -55,15 +71,15 @@ loop-less : tie.Need-loop-less Inv-loop μ-loop
 loop-less c = omega (arith, and-le-r (c .before .before .before .loop .s) (c .before .before .before .loop .s - 1))
 
 loop-again : tie.Need-loop-again Inv-loop μ-loop
-unfolding at
+unfolding cell
 loop-again c =
     let v = c .before .before .before .loop in
     let a = c .before .before .before .before .args in
     let down = and-le-r (v .s) (v .s - 1) in (
       omega arith,
       omega arith,
-      left-step (at (a .b .now) (a .l)) 64 (a .x .bits) (v .s) (v .y) (omega arith) (v .inv .0) (v .inv .1) (v .inv .2),
-      left-step (at (a .b .now) (a .g)) 64 (a .x .bits) (v .s) (v .w) (omega arith) (v .inv .0) (v .inv .1) (v .inv .3),
+      left-step (cell (a .stride) (a .b .now) (a .l)) 64 (a .x .bits) (v .s) (v .y) (omega arith) (v .inv .0) (v .inv .1) (v .inv .2),
+      left-step (cell (a .stride) (a .b .now) (a .g)) 64 (a .x .bits) (v .s) (v .w) (omega arith) (v .inv .0) (v .inv .1) (v .inv .3),
     )
 
 returns : tie.Need-returns Inv-loop μ-loop
@@ -72,7 +88,7 @@ returns c =
     let v = c .before .loop in
     let a = c .before .before .args in
     let e : v .s ≡ 0 = omega arith in
-    λ n h. (left-end (at (a .b .now) (a .l)) (a .x .bits) (v .y) (rw e at (v .inv .2)) n h, left-end (at (a .b .now) (a .g)) (a .x .bits) (v .w) (rw e at (v .inv .3)) n h)
+    λ n h. (left-end (cell (a .stride) (a .b .now) (a .l)) (a .x .bits) (v .y) (rw e at (v .inv .2)) n h, left-end (cell (a .stride) (a .b .now) (a .g)) (a .x .bits) (v .w) (rw e at (v .inv .3)) n h)
 
 pub times-two-spec : {M : Type 1} → statement M
 times-two-spec =
@@ -86,10 +102,10 @@ times-two-spec =
     cast-q
     add-y
     mul-y
-    element-copy-out-y
+    shared-slice-read-y
     add-w
     mul-w
-    element-copy-out-w
+    shared-slice-read-w
     sub-s
     loop-less
     loop-again
