@@ -4,13 +4,10 @@ ghost use mathlib.Core.Path.{_≡_};
 ghost use mathlib.Core.Bool.{Bool, true};
 ghost use Prim.Native.Nat.{ℕ, _+_, _^_, _≤_, _<_};
 ghost use lib.Bits.{bitXor, bitOr};
-ghost use lib.ListN.{length};
 ghost use Rattle.automata.specs.Mask.{bitOf};
 ghost use Rattle.rows.specs.Row.{width, mask};
-ghost use Rattle.rows.specs.Table.{at, row};
-ghost use Rattle.basis.specs.Basis.{parts, basisSize};
+ghost use Rattle.basis.specs.Basis.{parts, cell, bits, Room};
 ghost use Rattle.elimination.specs.Place.{Folded, Unused, Added, BasisIn, Covered, Placed};
-use basis::Basis;
 use rows::Row;
 
 // How many rows are found, their pivots, and a mask of every bit that one of them has.
@@ -21,42 +18,47 @@ pub struct Size {
 }
 
 // Adds x to the rows of block l below n whose neighbours in block 0 have bit q.
-fn fold(b: &mut Basis, l: usize, n: usize, q: usize, x: Row)
-    requires { ⌜ (l < parts) × (n ≤ width) × (q < width) × (length (now b) ≡ basisSize) ⌝ }
-    ensures { λ r. ⌜ Folded (λ j. j < n) l q (mask x) (now (b .entry)) (now (b .exit)) ⌝ }
+fn fold(b: &mut [u64], stride: usize, l: usize, n: usize, q: usize, x: Row)
+    requires { ⌜ (l < parts) × (n ≤ stride) × (q < width) × Room stride (now b) ⌝ }
+    ensures { λ r. ⌜ Folded stride (λ j. j < n) l q (mask x) (now (b .entry)) (now (b .exit)) ⌝ }
 {
     let mut j: usize = 0;
     while j < n {
-        let e = basis::get(b, 0, j);
+        let e = basis::get(b, stride, 0, j);
         let o = rows::has(e, q);
         let u = rows::when(o, x);
-        let d = basis::get(b, l, j);
-        basis::put(b, l, j, rows::xor(d, u));
+        let d = basis::get(b, stride, l, j);
+        basis::put(b, stride, l, j, rows::xor(d, u));
         j += 1;
     }
 }
 
-// The same for the rows of the pivots p, of n bits. Where no row found has bit q, no basis row has it, and nothing is to be done.
-fn spread(b: &mut Basis, l: usize, n: usize, p: Row, v: Row, q: usize, x: Row)
-    requires { ⌜ (l < parts) × (q < width) × (length (now b) ≡ basisSize) × Unused n (mask p) (mask v) q (now b) ⌝ }
-    ensures { λ r. ⌜ Folded (λ j. (j < n) × (bitOf (mask p) j ≡ true)) l q (mask x) (now (b .entry)) (now (b .exit)) ⌝ }
+// The same for the rows of the pivots p, of n bits. Where no row found has bit q, no basis row has it, and nothing is to be done. A block may
+// end before the span of the pivots does.
+fn spread(b: &mut [u64], stride: usize, l: usize, n: usize, p: Row, v: Row, q: usize, x: Row)
+    requires { ⌜ (l < parts) × (n ≤ stride) × (q < width) × Room stride (now b) × Unused stride n (mask p) (mask v) q (now b) ⌝ }
+    ensures { λ r. ⌜ Folded stride (λ j. (j < n) × (bitOf (mask p) j ≡ true)) l q (mask x) (now (b .entry)) (now (b .exit)) ⌝ }
 {
     if rows::has(v, q) {
-        fold(b, l, rows::span(p), q, x);
+        let mut k = rows::span(p);
+        if stride < k {
+            k = stride;
+        }
+        fold(b, stride, l, k, q, x);
     }
 }
 
 // Row y, found next, whose part x outside the basis has the new pivot q.
-fn add(b: &mut Basis, n: usize, s: Size, q: usize, x: Row, y: Row) -> Size
-    requires { ⌜ (n ≤ width) × (q < width) × (s .count < width) × (length (now b) ≡ basisSize) × Unused n (mask (s .pivots)) (mask (s .used)) q (now b) ⌝ }
-    ensures { λ r. ⌜ Added n (s .count) (mask (s .pivots)) q (mask x) (mask y) (now (b .entry)) (now (b .exit)) × (r .count ≡ s .count + 1) × (mask (r .pivots) ≡ bitXor (mask (s .pivots)) (2 ^ q)) × (mask (r .used) ≡ bitOr (mask (s .used)) (mask y)) ⌝ }
+fn add(b: &mut [u64], stride: usize, n: usize, s: Size, q: usize, x: Row, y: Row) -> Size
+    requires { ⌜ (n ≤ width) × (n ≤ stride) × (q < n) × (s .count < n) × Room stride (now b) × Unused stride n (mask (s .pivots)) (mask (s .used)) q (now b) ⌝ }
+    ensures { λ r. ⌜ Added stride n (s .count) (mask (s .pivots)) q (mask x) (mask y) (now (b .entry)) (now (b .exit)) × (r .count ≡ s .count + 1) × (mask (r .pivots) ≡ bitXor (mask (s .pivots)) (2 ^ q)) × (mask (r .used) ≡ bitOr (mask (s .used)) (mask y)) ⌝ }
 {
     let d = s.count;
     let p = s.pivots;
     let v = s.used;
-    spread(b, 0, n, p, v, q, x);
-    basis::put(b, 0, q, x);
-    basis::put(b, 1, d, y);
+    spread(b, stride, 0, n, p, v, q, x);
+    basis::put(b, stride, 0, q, x);
+    basis::put(b, stride, 1, d, y);
     Size {
         count: d + 1,
         pivots: rows::xor(p, rows::unit(q)),
@@ -65,20 +67,20 @@ fn add(b: &mut Basis, n: usize, s: Size, q: usize, x: Row, y: Row) -> Size
 }
 
 // Row y of n bits is an xor of the rows found, and nothing changes; or it is one more of them. Block 2 stays.
-pub fn insert(b: &mut Basis, n: usize, s: Size, y: Row) -> Size
-    requires { ⌜ (n ≤ width) × (length (now b) ≡ basisSize) × (mask y < 2 ^ n) × ((C : ℕ → ℕ → Bool) × BasisIn n (s .count) (mask (s .pivots)) C (now b)) × Covered (s .count) (mask (s .used)) (now b) ⌝ }
-    ensures placed { λ r. ⌜ ((C : ℕ → ℕ → Bool) → BasisIn n (s .count) (mask (s .pivots)) C (now (b .entry)) → (C′ : ℕ → ℕ → Bool) × (c : ℕ → Bool) × Placed n (s .count) (mask (s .pivots)) (mask (s .used)) (mask y) C C′ c (now (b .entry)) (now (b .exit)) (r .count) (mask (r .pivots)) (mask (r .used))) ⌝ }
-    ensures kept { λ _. ⌜ ((l i : ℕ) → 1 < l → i < width → at (now (b .exit)) l i ≡ at (now (b .entry)) l i) ⌝ }
+pub fn insert(b: &mut [u64], stride: usize, n: usize, s: Size, y: Row) -> Size
+    requires { ⌜ (n ≤ width) × (n ≤ stride) × Room stride (now b) × (mask y < 2 ^ n) × ((C : ℕ → ℕ → Bool) × BasisIn stride n (s .count) (mask (s .pivots)) C (now b)) × Covered stride (s .count) (mask (s .used)) (now b) ⌝ }
+    ensures placed { λ r. ⌜ ((C : ℕ → ℕ → Bool) → BasisIn stride n (s .count) (mask (s .pivots)) C (now (b .entry)) → (C′ : ℕ → ℕ → Bool) × (c : ℕ → Bool) × Placed stride n (s .count) (mask (s .pivots)) (mask (s .used)) (mask y) C C′ c (now (b .entry)) (now (b .exit)) (r .count) (mask (r .pivots)) (mask (r .used))) ⌝ }
+    ensures kept { λ _. ⌜ ((l i : ℕ) → 1 < l → i < stride → cell stride (now (b .exit)) l i ≡ cell stride (now (b .entry)) l i) ⌝ }
 {
     let p = s.pivots;
     let z = rows::and(y, p);
-    let e = basis::times(b, 0, z);
+    let e = basis::times(b, stride, 0, z);
     let left = rows::xor(y, e);
     if rows::is_none(left) {
         return s;
     }
     let q = rows::lowest(left);
-    add(b, n, s, q, left, y)
+    add(b, stride, n, s, q, left, y)
 }
 
 // The rows found that make a row, and the rows found once it is placed.
@@ -88,15 +90,15 @@ pub struct Spot {
 }
 
 // The same with coefficients: which of the rows found make y.
-pub fn place(b: &mut Basis, n: usize, s: Size, y: Row) -> Spot
-    requires { ⌜ (n ≤ width) × (length (now b) ≡ basisSize) × (mask y < 2 ^ n) × BasisIn n (s .count) (mask (s .pivots)) (row (now b) 2) (now b) × Covered (s .count) (mask (s .used)) (now b) ⌝ }
-    ensures { λ r. ⌜ Placed n (s .count) (mask (s .pivots)) (mask (s .used)) (mask y) (row (now (b .entry)) 2) (row (now (b .exit)) 2) (bitOf (mask (r .row))) (now (b .entry)) (now (b .exit)) (r .size .count) (mask (r .size .pivots)) (mask (r .size .used)) ⌝ }
+pub fn place(b: &mut [u64], stride: usize, n: usize, s: Size, y: Row) -> Spot
+    requires { ⌜ (n ≤ width) × (n ≤ stride) × Room stride (now b) × (mask y < 2 ^ n) × BasisIn stride n (s .count) (mask (s .pivots)) (bits stride (now b) 2) (now b) × Covered stride (s .count) (mask (s .used)) (now b) ⌝ }
+    ensures { λ r. ⌜ Placed stride n (s .count) (mask (s .pivots)) (mask (s .used)) (mask y) (bits stride (now (b .entry)) 2) (bits stride (now (b .exit)) 2) (bitOf (mask (r .row))) (now (b .entry)) (now (b .exit)) (r .size .count) (mask (r .size .pivots)) (mask (r .size .used)) ⌝ }
 {
     let d = s.count;
     let p = s.pivots;
     let v = s.used;
     let z = rows::and(y, p);
-    let w = basis::times_two(b, 0, 2, z);
+    let w = basis::times_two(b, stride, 0, 2, z);
     let e = w.first;
     let c = w.second;
     let left = rows::xor(y, e);
@@ -106,8 +108,8 @@ pub fn place(b: &mut Basis, n: usize, s: Size, y: Row) -> Spot
     let q = rows::lowest(left);
     let u = rows::unit(d);
     let own = rows::xor(c, u);
-    spread(b, 2, n, p, v, q, own);
-    basis::put(b, 2, q, own);
-    let t = add(b, n, s, q, left, y);
+    spread(b, stride, 2, n, p, v, q, own);
+    basis::put(b, stride, 2, q, own);
+    let t = add(b, stride, n, s, q, left, y);
     Spot { row: u, size: t }
 }

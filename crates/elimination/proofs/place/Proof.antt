@@ -6,10 +6,10 @@ use native.Mathlib.Omega.{arith}
 use borrow.Author.Tests.{eqb-true, eqb-false}
 use lib.Bits.{bitXor}
 use Rattle.automata.specs.Mask.{bitOf}
-use Rattle.rows.specs.Row.{width, mask}
-use Rattle.rows.specs.Table.{row}
+use Rattle.rows.specs.Row.{mask}
+use Rattle.basis.specs.Basis.{bits}
 use Rattle.rows.proofs.BitLaws.{bit-pow}
-use Rattle.elimination.proofs.PlaceLaws.{low, on-pivots, place-old, place-kept, has-room, unused, unused-after}
+use Rattle.elimination.proofs.PlaceLaws.{low, on-pivots, place-old, pivots-low, place-kept, both-below, unused, unused-after}
 use borrow.Author.Needs.{needs}
 use Rattle.elimination.proofs.place.Statement.{statement}
 use Rattle.elimination.proofs.place.Tie as tie
@@ -18,7 +18,10 @@ and-requires : tie.Need-and-requires
 and-requires c κs = search needs
 
 times-two-requires : tie.Need-times-two-requires
-times-two-requires c κs = search needs
+times-two-requires c κs =
+    let s = c .before .before .before .before .before in
+    let a = s .args in
+    (s .pre .2, omega arith, omega arith, pivots-low (a .stride) (a .n) (mask (a .y)) (mask (a .s .pivots)) (c .before .and .ensures) (s .pre .3) (s .pre .1))
 
 xor-requires : tie.Need-xor-requires
 xor-requires c κs = search needs
@@ -26,9 +29,12 @@ xor-requires c κs = search needs
 is-none-requires : tie.Need-is-none-requires
 is-none-requires c κs = search needs
 
+same-length : tie.Need-same-length
+same-length c = search needs
+
 returns : tie.Need-returns
 returns c =
-    let s = c .before .before .before .before .before .before .before .before .before .before in
+    let s = c .before .before .before .before .before .before .before .before .before .before .before in
     let a = s .args in
     let n = a .n in
     let d = a .s .count in
@@ -38,8 +44,8 @@ returns c =
     let t = a .b .now in
     let z = mask (c .before .before .before .before .before .before .before .and .result) in
     let w = c .before .before .before .before .before .times-two in
-    inl (place-old n d p v y t (row t 2) (s .pre .3) (s .pre .2) z (c .before .before .before .before .before .before .before .and .ensures) (mask (w .result .first)) (λ n h. w .ensures n h .0) (mask (c .before .before .xor .result)) (c .before .before .xor .ensures) (bitOf (mask (w .result .second)))
-    (on-pivots n d p v y t (row t 2) (s .pre .3) (s .pre .2) z (c .before .before .before .before .before .before .before .and .ensures) (mask (w .result .first)) (λ n h. w .ensures n h .0) (mask (c .before .before .xor .result)) (c .before .before .xor .ensures) 2 (mask (w .result .second)) (w .ensures n (low n d p v y t (row t 2) (s .pre .3) (s .pre .2) z (c .before .before .before .before .before .before .before .and .ensures) (mask (w .result .first)) (λ n h. w .ensures n h .0) (mask (c .before .before .xor .result)) (c .before .before .xor .ensures)) .1))
+    inl (place-old (a .stride) n d p v y t (bits (a .stride) t 2) (s .pre .4) (s .pre .3) z (c .before .before .before .before .before .before .before .and .ensures) (mask (w .result .first)) (λ n h. w .ensures n h .0) (mask (c .before .before .xor .result)) (c .before .before .xor .ensures) (bitOf (mask (w .result .second)))
+    (on-pivots (a .stride) n d p v y t (bits (a .stride) t 2) (s .pre .4) (s .pre .3) z (c .before .before .before .before .before .before .before .and .ensures) (mask (w .result .first)) (λ n h. w .ensures n h .0) (mask (c .before .before .xor .result)) (c .before .before .xor .ensures) 2 (mask (w .result .second)) (w .ensures n (low (a .stride) n d p v y t (bits (a .stride) t 2) (s .pre .4) (s .pre .3) z (c .before .before .before .before .before .before .before .and .ensures) (mask (w .result .first)) (λ n h. w .ensures n h .0) (mask (c .before .before .xor .result)) (c .before .before .xor .ensures)) .1))
     (eqb-true (mask (c .before .before .xor .result)) 0 (sym (c .before .is-none .ensures) ∙ c .if1 .taken)))
 
 lowest-requires : tie.Need-lowest-requires
@@ -47,43 +53,52 @@ lowest-requires c κs =
     let some = eqb-false (mask (c .before .before .xor .result)) 0 (sym (c .before .is-none .ensures) ∙ c .if1 .left) in
     omega (arith, some)
 
--- There is room for one more row.
-room-at : (c : tie.After-lowest) → c .before .before .before .before .before .before .before .before .before .before .before .args .s .count < width
-room-at c =
-    let s = c .before .before .before .before .before .before .before .before .before .before .before in
+-- The new pivot is below n, and there is room for one more row.
+fits : (c : tie.After-lowest) → (c .lowest .result < c .before .before .before .before .before .before .before .before .before .before .before .before .args .n) × (c .before .before .before .before .before .before .before .before .before .before .before .before .args .s .count < c .before .before .before .before .before .before .before .before .before .before .before .before .args .n)
+fits c =
+    let s = c .before .before .before .before .before .before .before .before .before .before .before .before in
     let a = s .args in
     let t = a .b .now in
+    let and = c .before .before .before .before .before .before .before .before .and in
     let w = c .before .before .before .before .before .before .times-two in
-    let k = has-room (a .n) (a .s .count) (mask (a .s .pivots)) (mask (a .s .used)) (mask (a .y)) t (row t 2) (s .pre .3) (s .pre .2) (mask (c .before .before .before .before .before .before .before .before .and .result)) (c .before .before .before .before .before .before .before .before .and .ensures) (mask (w .result .first)) (λ n h. w .ensures n h .0) (mask (c .before .before .before .xor .result)) (c .before .before .before .xor .ensures) (c .lowest .result) (c .lowest .ensures .1) in
-    omega (arith, s .pre .0)
+    let xor = c .before .before .before .xor in
+    both-below (a .stride) (a .n) (a .s .count) (mask (a .s .pivots)) (mask (a .s .used)) (mask (a .y)) t (bits (a .stride) t 2) (s .pre .4) (s .pre .3) (mask (and .result)) (and .ensures) (mask (w .result .first)) (λ n h. w .ensures n h .0) (mask (xor .result)) (xor .ensures) (c .lowest .result) (c .lowest .ensures .1)
 
 unit-requires : tie.Need-unit-requires
-unit-requires c κs = room-at c
+unit-requires c κs = omega (arith, fits c, c .before .before .before .before .before .before .before .before .before .before .before .before .pre .0)
 
 xor-requires-2 : tie.Need-xor-requires-2
 xor-requires-2 c κs = search needs
 
 spread-requires : tie.Need-spread-requires
 spread-requires c κs =
-    let s = c .before .before .before .before .before .before .before .before .before .before .before .before .before .before in
+    let s = c .before .before .before .before .before .before .before .before .before .before .before .before .before .before .before in
     let a = s .args in
-    (omega arith, c .before .before .before .lowest .ensures .0, s .pre .1, unused (a .n) (a .s .count) (mask (a .s .pivots)) (mask (a .s .used)) (c .before .before .before .lowest .result) (a .b .now) (row (a .b .now) 2) (s .pre .3) (s .pre .4))
+    (omega arith, s .pre .1, c .before .before .before .lowest .ensures .0, s .pre .2, unused (a .stride) (a .n) (a .s .count) (mask (a .s .pivots)) (mask (a .s .used)) (c .before .before .before .lowest .result) (a .b .now) (bits (a .stride) (a .b .now) 2) (s .pre .4) (s .pre .5))
 
 put-requires : tie.Need-put-requires
-put-requires c κs = (omega arith, c .before .before .before .before .before .lowest .ensures .0)
+put-requires c κs =
+    let l = c .before .before .before .before .before .before .before in
+    let s = l .before .before .before .before .before .before .before .before .before .before .before .before in
+    let f = fits l in
+    (omega (arith, s .pre .2, c .before .before .before .spread .ensures .size), omega arith, omega (arith, f, s .pre .1))
 
 add-requires : tie.Need-add-requires
 add-requires c κs =
-    let s = c .before .before .before .before .before .before .before .before .before .before .before .before .before .before .before .before .before .before in
+    let s = c .before .before .before .before .before .before .before .before .before .before .before .before .before .before .before .before .before .before .before .before .before .before .before in
     let a = s .args in
-    let l = c .before .before .before .before .before .before .before .lowest in
-    let U = unused (a .n) (a .s .count) (mask (a .s .pivots)) (mask (a .s .used)) (l .result) (a .b .now) (row (a .b .now) 2) (s .pre .3) (s .pre .4) in
-    let r = unused-after (a .n) (mask (a .s .pivots)) (mask (a .s .used)) (l .result) (mask (c .before .before .before .before .before .xor2 .result)) (a .b .now) (c .before .before .before .spread .last .0) (c .before .put .last .0) (s .pre .0) (l .ensures .0) (s .pre .1) (c .before .before .before .spread .ensures) (c .before .put .ensures) U in
-    (s .pre .0, l .ensures .0, room-at (c .before .before .before .before .before .before .before), r .0, r .1)
+    let l = c .before .before .before .before .before .before .before .before .before .before .before .lowest in
+    let f = fits (c .before .before .before .before .before .before .before .before .before .before .before) in
+    let U = unused (a .stride) (a .n) (a .s .count) (mask (a .s .pivots)) (mask (a .s .used)) (l .result) (a .b .now) (bits (a .stride) (a .b .now) 2) (s .pre .4) (s .pre .5) in
+    let r = unused-after (a .stride) (a .n) (mask (a .s .pivots)) (mask (a .s .used)) (l .result) (mask (c .before .before .before .before .before .before .before .before .before .xor2 .result)) (a .b .now) (c .before .before .before .before .before .before .before .spread .last .0) (c .before .before .before .put .last .0) (s .pre .1) (omega (arith, f, s .pre .1)) (s .pre .2) (c .before .before .before .before .before .before .before .spread .ensures) (c .before .before .before .put .ensures) U in
+    (s .pre .0, s .pre .1, f .0, f .1, r .0, r .1)
+
+same-length-2 : tie.Need-same-length-2
+same-length-2 c = search needs
 
 returns-2 : tie.Need-returns-2
 returns-2 c =
-    let s = c .before .before .before .before .before .before .before .before .before .before .before .before .before .before .before .before .before .before .before in
+    let s = c .before .before .before .before .before .before .before .before .before .before .before .before .before .before .before .before .before .before .before .before .before .before .before .before .before .before in
     let a = s .args in
     let n = a .n in
     let d = a .s .count in
@@ -91,12 +106,12 @@ returns-2 c =
     let v = mask (a .s .used) in
     let y = mask (a .y) in
     let t = a .b .now in
-    let q = c .before .before .before .before .before .before .before .before .lowest .result in
-    let z = mask (c .before .before .before .before .before .before .before .before .before .before .before .before .before .before .before .before .and .result) in
-    let w = c .before .before .before .before .before .before .before .before .before .before .before .before .before .before .times-two in
-    let A = c .add .ensures in
-    inr (rw (A .1, A .2, A .3) (place-kept n d p v y t (row t 2) (s .pre .3) (s .pre .2) z (c .before .before .before .before .before .before .before .before .before .before .before .before .before .before .before .before .and .ensures) (mask (w .result .first)) (λ n h. w .ensures n h .0) (mask (c .before .before .before .before .before .before .before .before .before .before .before .xor .result)) (c .before .before .before .before .before .before .before .before .before .before .before .xor .ensures) q (c .before .before .before .before .before .before .before .before .lowest .ensures .1)
-    refl (s .pre .4) (s .pre .0) (s .pre .1) (mask (w .result .second)) (λ n h. w .ensures n h .1) (mask (c .before .before .before .before .before .before .before .unit .result)) (c .before .before .before .before .before .before .before .unit .ensures) (mask (c .before .before .before .before .before .before .xor2 .result)) (c .before .before .before .before .before .before .xor2 .ensures) (c .before .before .before .before .spread .last .0) (c .before .before .put .last .0) (c .add .last .0) (c .before .before .before .before .spread .ensures) (c .before .before .put .ensures) (A .0)))
+    let q = c .before .before .before .before .before .before .before .before .before .before .before .before .before .before .lowest .result in
+    let z = mask (c .before .before .before .before .before .before .before .before .before .before .before .before .before .before .before .before .before .before .before .before .before .before .and .result) in
+    let w = c .before .before .before .before .before .before .before .before .before .before .before .before .before .before .before .before .before .before .before .before .times-two in
+    let A = c .before .before .add .ensures in
+    inr (rw (A .1, A .2, A .3) (place-kept (a .stride) n d p v y t (bits (a .stride) t 2) (s .pre .4) (s .pre .3) z (c .before .before .before .before .before .before .before .before .before .before .before .before .before .before .before .before .before .before .before .before .before .before .and .ensures) (mask (w .result .first)) (λ n h. w .ensures n h .0) (mask (c .before .before .before .before .before .before .before .before .before .before .before .before .before .before .before .before .before .xor .result)) (c .before .before .before .before .before .before .before .before .before .before .before .before .before .before .before .before .before .xor .ensures) q (c .before .before .before .before .before .before .before .before .before .before .before .before .before .before .lowest .ensures .1)
+    refl (s .pre .5) (s .pre .1) (s .pre .2) (mask (w .result .second)) (λ n h. w .ensures n h .1) (mask (c .before .before .before .before .before .before .before .before .before .before .before .before .before .unit .result)) (c .before .before .before .before .before .before .before .before .before .before .before .before .before .unit .ensures) (mask (c .before .before .before .before .before .before .before .before .before .before .before .before .xor2 .result)) (c .before .before .before .before .before .before .before .before .before .before .before .before .xor2 .ensures) (c .before .before .before .before .before .before .before .before .before .before .spread .last .0) (c .before .before .before .before .before .before .put .last .0) (c .before .before .add .last .0) (c .before .before .before .before .before .before .before .before .before .before .spread .ensures) (c .before .before .before .before .before .before .put .ensures) (A .0)))
 
 pub place-spec : {M : Type 1} → statement M
 place-spec =
@@ -106,6 +121,7 @@ place-spec =
     times-two-requires
     xor-requires
     is-none-requires
+    same-length
     returns
     lowest-requires
     unit-requires
@@ -113,4 +129,5 @@ place-spec =
     spread-requires
     put-requires
     add-requires
+    same-length-2
     returns-2)
