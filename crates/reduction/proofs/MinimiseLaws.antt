@@ -11,8 +11,9 @@ use Rattle.automata.proofs.Dimension.{dimension-same}
 use Rattle.automata.proofs.Fields.{same-fields}
 use Rattle.automata.proofs.Tree.{tree-bits}
 use Rattle.automata.proofs.Results.{trees-fields, trees-dimension}
-use Rattle.rows.specs.Table.{row}
+use Rattle.rows.specs.Row.{width}
 use Rattle.rows.specs.Machine.{auto, Bounded}
+use Rattle.basis.specs.Basis.{bits}
 use Rattle.transpose.specs.Transposed.{Transposed}
 use Rattle.reduction.specs.Tables.{Reduces, Minimises}
 
@@ -27,8 +28,8 @@ pub twice : (a : ℕ) (t : List ℕ) (n i f : ℕ) (u b c : List ℕ) (d i′ f�
     → Transposed a n t u → Reduces a u n f i b c d i′ f′ → Transposed a d c u′ → Reduces a u′ d f′ i′ b′ s e i″ f″ → Minimises a (auto t n i f) s e i″ f″
 twice a t n i f u b c d i′ f′ u′ b′ s e i″ f″ T S T′ S′ = record {
   bounded = S′ .bounded;
-  same-fields = trees-fields a A B C d e (row b 1) (row b′ 1) (S .from) (S .by) (S′ .from) (S′ .by) first second;
-  dimension = trees-dimension a A B C d e (row b 1) (row b′ 1) (S .from) (S .by) (S′ .from) (S′ .by) first second;
+  same-fields = trees-fields a A B C d e (bits width b 1) (bits width b′ 1) (S .from) (S .by) (S′ .from) (S′ .by) first second;
+  dimension = trees-dimension a A B C d e (bits width b 1) (bits width b′ 1) (S .from) (S .by) (S′ .from) (S′ .by) first second;
 }
   where
     A : Automaton
@@ -40,11 +41,11 @@ twice a t n i f u b c d i′ f′ u′ b′ s e i″ f″ T S T′ S′ = record
     C : Automaton
     C = auto s e i″ f″
 
-    first : Tree a (mirrorOf A) B d (row b 1) (S .from) (S .by)
-    first = tree-bits a (mirrorOf A) (auto u n f i) B d (row b 1) (S .from) (S .by) (transposed-bits a n i f t u T) (S .tree)
+    first : Tree a (mirrorOf A) B d (bits width b 1) (S .from) (S .by)
+    first = tree-bits a (mirrorOf A) (auto u n f i) B d (bits width b 1) (S .from) (S .by) (transposed-bits a n i f t u T) (S .tree)
 
-    second : Tree a (mirrorOf B) C e (row b′ 1) (S′ .from) (S′ .by)
-    second = tree-bits a (mirrorOf B) (auto u′ d f′ i′) C e (row b′ 1) (S′ .from) (S′ .by) (transposed-bits a d i′ f′ c u′ T′) (S′ .tree)
+    second : Tree a (mirrorOf B) C e (bits width b′ 1) (S′ .from) (S′ .by)
+    second = tree-bits a (mirrorOf B) (auto u′ d f′ i′) C e (bits width b′ 1) (S′ .from) (S′ .by) (transposed-bits a d i′ f′ c u′ T′) (S′ .tree)
 
 -- What is minimal for one automaton is minimal for every other with the same words.
 pub minimises-same : (a : ℕ) (A B : Automaton) (s : List ℕ) (d i f : ℕ) → Same a (accepts A) (accepts B) → Minimises a A s d i f → Minimises a B s d i f

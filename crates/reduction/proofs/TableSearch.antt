@@ -22,95 +22,95 @@ use Rattle.rows.specs.Machine.{autoBy, auto, Bounded}
 use Rattle.rows.proofs.BitLaws.{bit-xor, bit-none, bit-pow, bits-lt}
 use Rattle.rows.proofs.ProductLaws.{bit-product}
 use Rattle.rows.proofs.TableLaws.{length-stored, stored-same, stored-other}
-use Rattle.basis.specs.Basis.{basisSize}
+use Rattle.basis.specs.Basis.{basisSize, cell, bits}
 use Rattle.elimination.specs.Place.{BasisIn, Covered, Old, New, Placed}
 use Rattle.elimination.proofs.EchelonLaws.{no-echelon, gt-differ}
 use Rattle.elimination.proofs.PlaceLaws.{if-same, if-other}
 use Rattle.reduction.specs.Tables.{SearchIn, Searching, accepted, Reduces, Column}
 use Rattle.reduction.proofs.SearchLaws.{search-none, search-first, search-next, search-old, search-new, search-tree}
 
-pub count-bound : (n d p : ℕ) (C : ℕ → ℕ → Bool) (b : List ℕ) → BasisIn n d p C b → d ≤ n
-count-bound n d p C b F = independent-bound n d (row b 1) (F .free)
+pub count-bound : (σ n d p : ℕ) (C : ℕ → ℕ → Bool) (b : List ℕ) → BasisIn σ n d p C b → d ≤ n
+count-bound σ n d p C b F = independent-bound n d (bits σ b 1) (F .free)
 
-pub empty-basis : (n : ℕ) (C : ℕ → ℕ → Bool) (b : List ℕ) → BasisIn n 0 0 C b
-empty-basis n C b = no-echelon n (bitOf 0) (row b 1) (row b 0) C bit-none
+pub empty-basis : (σ n : ℕ) (C : ℕ → ℕ → Bool) (b : List ℕ) → BasisIn σ n 0 0 C b
+empty-basis σ n C b = no-echelon n (bitOf 0) (bits σ b 1) (bits σ b 0) C bit-none
 
-pub empty-cover : (v : ℕ) (b : List ℕ) → Covered 0 v b
-empty-cover v b i k h = absurd (not-suc-le-zero h)
+pub empty-cover : (σ v : ℕ) (b : List ℕ) → Covered σ 0 v b
+empty-cover σ v b i k h = absurd (not-suc-le-zero h)
 
 -- ---- a row placed
 
-module _ (n d p v y : ℕ) (C C′ : ℕ → ℕ → Bool) (c : ℕ → Bool) (t s : List ℕ) (d′ p′ v′ : ℕ) where
-  pub placed-length : length t ≡ basisSize → Placed n d p v y C C′ c t s d′ p′ v′ → length s ≡ basisSize
-  placed-length h (inl O) = ap length (O .table) ∙ h
-  placed-length h (inr N) = N .size
+module _ (σ n d p v y : ℕ) (C C′ : ℕ → ℕ → Bool) (c : ℕ → Bool) (t s : List ℕ) (d′ p′ v′ : ℕ) where
+  pub placed-length : Placed σ n d p v y C C′ c t s d′ p′ v′ → length s ≡ length t
+  placed-length (inl O) = ap length (O .table)
+  placed-length (inr N) = N .size
 
-  pub placed-more : Placed n d p v y C C′ c t s d′ p′ v′ → d ≤ d′
+  pub placed-more : Placed σ n d p v y C C′ c t s d′ p′ v′ → d ≤ d′
   placed-more (inl O) = let e = O .count in omega arith
   placed-more (inr N) = let e = N .count in omega arith
 
   -- The rows found before are as they were.
-  pub placed-kept : Placed n d p v y C C′ c t s d′ p′ v′ → (r : ℕ) → r < d → at s 1 r ≡ at t 1 r
-  placed-kept (inl O) r h = ap (λ u. at u 1 r) (O .table)
+  pub placed-kept : Placed σ n d p v y C C′ c t s d′ p′ v′ → (r : ℕ) → r < d → cell σ s 1 r ≡ cell σ t 1 r
+  placed-kept (inl O) r h = ap (λ u. cell σ u 1 r) (O .table)
   placed-kept (inr N) r h = N .row-old r h
 
-  pub placed-cover : Covered d v t → Placed n d p v y C C′ c t s d′ p′ v′ → Covered d′ v′ s
+  pub placed-cover : Covered σ d v t → Placed σ n d p v y C C′ c t s d′ p′ v′ → Covered σ d′ v′ s
   placed-cover K (inl O) = rw (O .count, O .used, O .table) K
   placed-cover K (inr N) = rw (N .count) (N .cover)
 
 -- ---- the search
 
 -- The initial row is placed first. S are the products done: none yet.
-pub search-start : (a : ℕ) (M : ℕ → ℕ → ℕ) (n i f : ℕ) (C C′ : ℕ → ℕ → Bool) (c : ℕ → Bool) (b b′ : List ℕ) (from by : ℕ → ℕ) (S : ℕ → ℕ → ℕ → Bool) (d p v : ℕ) → Placed n 0 0 0 i C C′ c b b′ d p v → SearchIn a M n i f b′ C′ from by S d 0 0 p
-search-start a M n i f C C′ c b b′ from by S d p v (inl O) =
-    rw (O .count, O .pivots, O .table, O .coef) (search-none a (autoBy M n i f) (bitOf 0) (row b 1) (row b 0) C from by S bit-none (λ j. O .sum j))
-search-start a M n i f C C′ c b b′ from by S d p v (inr N) =
-    rw (N .count) (search-first a (autoBy M n i f) (bitOf p) (row b′ 1) (row b′ 0) C′ from by S (N .basis) (λ j. ap (λ v. bitOf v j) (N .row-new)))
+pub search-start : (σ a : ℕ) (M : ℕ → ℕ → ℕ) (n i f : ℕ) (C C′ : ℕ → ℕ → Bool) (c : ℕ → Bool) (b b′ : List ℕ) (from by : ℕ → ℕ) (S : ℕ → ℕ → ℕ → Bool) (d p v : ℕ) → Placed σ n 0 0 0 i C C′ c b b′ d p v → SearchIn σ a M n i f b′ C′ from by S d 0 0 p
+search-start σ a M n i f C C′ c b b′ from by S d p v (inl O) =
+    rw (O .count, O .pivots, O .table, O .coef) (search-none a (autoBy M n i f) (bitOf 0) (bits σ b 1) (bits σ b 0) C from by S bit-none (λ j. O .sum j))
+search-start σ a M n i f C C′ c b b′ from by S d p v (inr N) =
+    rw (N .count) (search-first a (autoBy M n i f) (bitOf p) (bits σ b′ 1) (bits σ b′ 0) C′ from by S (N .basis) (λ j. ap (λ v. bitOf v j) (N .row-new)))
 
-pub searching-start : (a : ℕ) (t : List ℕ) (n i f : ℕ) (b b′ s : List ℕ) (c d p v : ℕ) → length b ≡ basisSize → length s ≡ size → Placed n 0 0 0 i (row b 2) (row b′ 2) (bitOf c) b b′ d p v → Searching a t n i f b′ s d 0 0 p v
+pub searching-start : (a : ℕ) (t : List ℕ) (n i f : ℕ) (b b′ s : List ℕ) (c d p v : ℕ) → length b ≡ basisSize → length s ≡ size → Placed width n 0 0 0 i (bits width b 2) (bits width b′ 2) (bitOf c) b b′ d p v → Searching a t n i f b′ s d 0 0 p v
 searching-start a t n i f b b′ s c d p v hb hs P = record {
   from = λ r. 0;
   by = λ r. 0;
-  search = search-start a (at t) n i f (row b 2) (row b′ 2) (bitOf c) b b′ (λ r. 0) (λ r. 0) (row s) d p v P;
-  cover = placed-cover n 0 0 0 i (row b 2) (row b′ 2) (bitOf c) b b′ d p v (empty-cover 0 b) P;
-  base = placed-length n 0 0 0 i (row b 2) (row b′ 2) (bitOf c) b b′ d p v hb P;
+  search = search-start width a (at t) n i f (bits width b 2) (bits width b′ 2) (bitOf c) b b′ (λ r. 0) (λ r. 0) (row s) d p v P;
+  cover = placed-cover width n 0 0 0 i (bits width b 2) (bits width b′ 2) (bitOf c) b b′ d p v (empty-cover width 0 b) P;
+  base = placed-length width n 0 0 0 i (bits width b 2) (bits width b′ 2) (bitOf c) b b′ d p v P ∙ hb;
   out = hs;
 }
 
 -- The coordinates of the initial row: row 0 alone, where there is a row. The rows found later are e in all.
-pub start-row : (n i : ℕ) (C C′ : ℕ → ℕ → Bool) (b b′ : List ℕ) (c d p v e : ℕ) → Placed n 0 0 0 i C C′ (bitOf c) b b′ d p v → d ≤ e → (d ≡ 0 → e ≡ 0) → ((k : ℕ) → k < e → bitOf c k ≡ eqb k 0) × (c < 2 ^ e)
-start-row n i C C′ b b′ c d p v e (inl O) h z =
+pub start-row : (σ n i : ℕ) (C C′ : ℕ → ℕ → Bool) (b b′ : List ℕ) (c d p v e : ℕ) → Placed σ n 0 0 0 i C C′ (bitOf c) b b′ d p v → d ≤ e → (d ≡ 0 → e ≡ 0) → ((k : ℕ) → k < e → bitOf c k ≡ eqb k 0) × (c < 2 ^ e)
+start-row σ n i C C′ b b′ c d p v e (inl O) h z =
     let w : e ≡ 0 = z (O .count) in
     (λ k g. absurd (omega arith), rw w (bits-lt c 0 (λ j g. O .short j g)))
-start-row n i C C′ b b′ c d p v e (inr N) h z =
+start-row σ n i C C′ b b′ c d p v e (inr N) h z =
     let w : d ≡ 1 = N .count in (λ k g. N .own k, bits-lt c e (λ j g. N .own j ∙ gt-differ j 0 (omega arith)))
 
 -- One pair: the product of row k and letter l is placed. S are the products done, whatever holds them.
-module _ (a : ℕ) (M : ℕ → ℕ → ℕ) (n i f : ℕ) (b : List ℕ) (C : ℕ → ℕ → Bool) (from by : ℕ → ℕ) (S : ℕ → ℕ → ℕ → Bool) (d k l p : ℕ) (G : SearchIn a M n i f b C from by S d k l p) (hk : k < d) (hl : l < a)
+module _ (σ a : ℕ) (M : ℕ → ℕ → ℕ) (n i f : ℕ) (b : List ℕ) (C : ℕ → ℕ → Bool) (from by : ℕ → ℕ) (S : ℕ → ℕ → ℕ → Bool) (d k l p : ℕ) (G : SearchIn σ a M n i f b C from by S d k l p) (hk : k < d) (hl : l < a)
     (v d′ p′ v′ : ℕ) (C′ : ℕ → ℕ → Bool) (c : ℕ → Bool) (b′ : List ℕ) (S′ : ℕ → ℕ → ℕ → Bool) (kept : (x j : ℕ) → x < a → j < d → ((j ≡ k) × (x ≡ l) → ⊥) → S′ x j ≡ S x j) (written : S′ l k ≡ c) where
   -- It is an xor of rows found.
-  pub search-old-row : Old d p v (product n (at b 1 k) (M l)) C C′ c b b′ d′ p′ v′ → SearchIn a M n i f b′ C′ from by S′ d′ k (l + 1) p′
+  pub search-old-row : Old σ d p v (product n (cell σ b 1 k) (M l)) C C′ c b b′ d′ p′ v′ → SearchIn σ a M n i f b′ C′ from by S′ d′ k (l + 1) p′
   search-old-row O =
       rw (O .count, O .pivots, O .table, O .coef, add-one l)
-      (search-old a (autoBy M n i f) d k l (bitOf p) (row b 1) (row b 0) C from by S G hk hl S′ kept c (λ j. sym (bit-product n (at b 1 k) (M l) j) ∙ O .sum j) (O .short) written)
+      (search-old a (autoBy M n i f) d k l (bitOf p) (bits σ b 1) (bits σ b 0) C from by S G hk hl S′ kept c (λ j. sym (bit-product n (cell σ b 1 k) (M l) j) ∙ O .sum j) (O .short) written)
 
   -- It is a new row.
   pub search-new-row : (from′ by′ : ℕ → ℕ) → ((r : ℕ) → r < d → from′ r ≡ from r) → from′ d ≡ k → ((r : ℕ) → r < d → by′ r ≡ by r) → by′ d ≡ l
-      → New n d (product n (at b 1 k) (M l)) C′ c b b′ d′ p′ v′ → SearchIn a M n i f b′ C′ from′ by′ S′ d′ k (l + 1) p′
+      → New σ n d (product n (cell σ b 1 k) (M l)) C′ c b b′ d′ p′ v′ → SearchIn σ a M n i f b′ C′ from′ by′ S′ d′ k (l + 1) p′
   search-new-row from′ by′ from-old from-new by-old by-new N =
       rw (N .count, add-one l)
-      (search-new a (autoBy M n i f) d k l (bitOf p) (row b 1) (row b 0) C from by S G hk hl S′ kept
-      (bitOf p′) (row b′ 1) (row b′ 0) C′ from′ by′ (N .basis)
-      (λ r h j. ap (λ v. bitOf v j) (N .row-old r h)) (λ j. ap (λ v. bitOf v j) (N .row-new) ∙ bit-product n (at b 1 k) (M l) j)
+      (search-new a (autoBy M n i f) d k l (bitOf p) (bits σ b 1) (bits σ b 0) C from by S G hk hl S′ kept
+      (bitOf p′) (bits σ b′ 1) (bits σ b′ 0) C′ from′ by′ (N .basis)
+      (λ r h j. ap (λ v. bitOf v j) (N .row-old r h)) (λ j. ap (λ v. bitOf v j) (N .row-new) ∙ bit-product n (cell σ b 1 k) (M l) j)
       from-old from-new by-old by-new (λ r. ap (λ u. u r) written ∙ N .own r))
 
 -- The products in a table.
 pub searching-step : (a : ℕ) (t : List ℕ) (n i f : ℕ) → Bounded a t n i f → (b s : List ℕ) (d k l p v : ℕ) → Searching a t n i f b s d k l p v → k < d → l < a
-    → (y : ℕ) → y ≡ product n (at b 1 k) (at t l) → (c d′ p′ v′ : ℕ) (b′ s′ : List ℕ) → Placed n d p v y (row b 2) (row b′ 2) (bitOf c) b b′ d′ p′ v′ → s′ ≡ stored s l k c → Searching a t n i f b′ s′ d′ k (l + 1) p′ v′
+    → (y : ℕ) → y ≡ product n (cell width b 1 k) (at t l) → (c d′ p′ v′ : ℕ) (b′ s′ : List ℕ) → Placed width n d p v y (bits width b 2) (bits width b′ 2) (bitOf c) b b′ d′ p′ v′ → s′ ≡ stored s l k c → Searching a t n i f b′ s′ d′ k (l + 1) p′ v′
 searching-step a t n i f ok b s d k l p v G hk hl y hy c d′ p′ v′ b′ s′ P e = go (rw hy at P)
   where
     hd : d ≤ width
-    hd = omega (arith, count-bound n d p (row b 2) b (G .search .basis), ok .states)
+    hd = omega (arith, count-bound width n d p (bits width b 2) b (G .search .basis), ok .states)
 
     ha : a ≤ blocks
     ha = ok .letters
@@ -131,22 +131,22 @@ searching-step a t n i f ok b s d k l p v G hk hl y hy c d′ p′ v′ b′ s�
     by′ : ℕ → ℕ
     by′ r = cond (eqb r d) l (G .by r)
 
-    go : Placed n d p v (product n (at b 1 k) (at t l)) (row b 2) (row b′ 2) (bitOf c) b b′ d′ p′ v′ → Searching a t n i f b′ s′ d′ k (l + 1) p′ v′
+    go : Placed width n d p v (product n (cell width b 1 k) (at t l)) (bits width b 2) (bits width b′ 2) (bitOf c) b b′ d′ p′ v′ → Searching a t n i f b′ s′ d′ k (l + 1) p′ v′
     go (inl O) = record {
       from = G .from;
       by = G .by;
-      search = search-old-row a (at t) n i f b (row b 2) (G .from) (G .by) (row s) d k l p (G .search) hk hl v d′ p′ v′ (row b′ 2) (bitOf c) b′ (row s′) kept written O;
-      cover = placed-cover n d p v (product n (at b 1 k) (at t l)) (row b 2) (row b′ 2) (bitOf c) b b′ d′ p′ v′ (G .cover) (inl O);
-      base = placed-length n d p v (product n (at b 1 k) (at t l)) (row b 2) (row b′ 2) (bitOf c) b b′ d′ p′ v′ (G .base) (inl O);
+      search = search-old-row width a (at t) n i f b (bits width b 2) (G .from) (G .by) (row s) d k l p (G .search) hk hl v d′ p′ v′ (bits width b′ 2) (bitOf c) b′ (row s′) kept written O;
+      cover = placed-cover width n d p v (product n (cell width b 1 k) (at t l)) (bits width b 2) (bits width b′ 2) (bitOf c) b b′ d′ p′ v′ (G .cover) (inl O);
+      base = placed-length width n d p v (product n (cell width b 1 k) (at t l)) (bits width b 2) (bits width b′ 2) (bitOf c) b b′ d′ p′ v′ (inl O) ∙ G .base;
       out = out′;
     }
     go (inr N) = record {
       from = from′;
       by = by′;
-      search = search-new-row a (at t) n i f b (row b 2) (G .from) (G .by) (row s) d k l p (G .search) hk hl v d′ p′ v′ (row b′ 2) (bitOf c) b′ (row s′) kept written from′ by′
+      search = search-new-row width a (at t) n i f b (bits width b 2) (G .from) (G .by) (row s) d k l p (G .search) hk hl v d′ p′ v′ (bits width b′ 2) (bitOf c) b′ (row s′) kept written from′ by′
           (λ r h. if-other r d k (G .from r) (omega arith)) (if-same d k (G .from d)) (λ r h. if-other r d l (G .by r) (omega arith)) (if-same d l (G .by d)) N;
       cover = rw (N .count) (N .cover);
-      base = N .size;
+      base = N .size ∙ G .base;
       out = out′;
     }
 
@@ -154,7 +154,7 @@ pub searching-next : (a : ℕ) (t : List ℕ) (n i f : ℕ) (b s : List ℕ) (d 
 searching-next a t n i f b s d k p v G = record {
   from = G .from;
   by = G .by;
-  search = rw (add-one k) (search-next a (auto t n i f) (bitOf p) (row b 1) (row b 0) (row b 2) (G .from) (G .by) (row s) d k (G .search));
+  search = rw (add-one k) (search-next a (auto t n i f) (bitOf p) (bits width b 1) (bits width b 0) (bits width b 2) (G .from) (G .by) (row s) d k (G .search));
   cover = G .cover;
   base = G .base;
   out = G .out;
@@ -166,9 +166,9 @@ pub searching-end : (a : ℕ) (t : List ℕ) (n i f : ℕ) → Bounded a t n i f
 searching-end a t n i f ok b s d p v c r G hc lc hr lr = record {
   from = G .from;
   by = G .by;
-  tree = search-tree a (auto t n i f) (auto s d c r) d (bitOf p) (row b 1) (row b 0) (row b 2) (G .from) (G .by) (G .search) refl hc hr;
+  tree = search-tree a (auto t n i f) (auto s d c r) d (bitOf p) (bits width b 1) (bits width b 0) (bits width b 2) (G .from) (G .by) (G .search) refl hc hr;
   bounded = record {
-    states = omega (arith, count-bound n d p (row b 2) b (G .search .basis), ok .states);
+    states = omega (arith, count-bound width n d p (bits width b 2) b (G .search .basis), ok .states);
     letters = ok .letters;
     size = G .out;
     initial = lc;
@@ -189,9 +189,9 @@ pub counted-start : (n : ℕ) (b : List ℕ) (f : ℕ) → Counted n b 0 f 0
 counted-start n b f = record { column = λ k h. absurd (not-suc-le-zero h); above = λ k h. bit-none k }
 
 -- u is the bit m where the row shares an odd number of bits with f, and has no bit otherwise.
-pub counted-step : (n : ℕ) (b : List ℕ) (m f r u : ℕ) (o : Bool) → o ≡ accepted n b f m → ((k : ℕ) → bitOf u k ≡ o && eqb k m) → Counted n b m f r → Counted n b (m + 1) f (bitXor r u)
+pub counted-step : (n : ℕ) (b : List ℕ) (m f r u : ℕ) (o : Bool) → o ≡ accepted width n b f m → ((k : ℕ) → bitOf u k ≡ o && eqb k m) → Counted n b m f r → Counted n b (m + 1) f (bitXor r u)
 counted-step n b m f r u o ho hu C = rw add-one (record {
-  column = up-to m (λ k h. bit-xor k r u ∙ ap₂ _⊕_ (C .column k h) (hu k ∙ ap (λ e. o && e) (eqb-differ {m = k} {n = m} (omega arith)) ∙ and-false o) ∙ xor-false (accepted n b f k))
+  column = up-to m (λ k h. bit-xor k r u ∙ ap₂ _⊕_ (C .column k h) (hu k ∙ ap (λ e. o && e) (eqb-differ {m = k} {n = m} (omega arith)) ∙ and-false o) ∙ xor-false (accepted width n b f k))
       (bit-xor m r u ∙ ap₂ _⊕_ (C .above m (omega arith)) (hu m ∙ ap (λ e. o && e) (eqb-same m) ∙ and-true o) ∙ ho);
   above = λ k h. bit-xor k r u ∙ ap₂ _⊕_ (C .above k (omega arith)) (hu k ∙ ap (λ e. o && e) (gt-differ k m h) ∙ and-false o);
 })
@@ -199,5 +199,5 @@ counted-step n b m f r u o ho hu C = rw add-one (record {
 pub counted-low : (n : ℕ) (b : List ℕ) (m f r : ℕ) → Counted n b m f r → r < 2 ^ m
 counted-low n b m f r C = bits-lt r m (C .above)
 
-pub found-low : (n d p : ℕ) (C : ℕ → ℕ → Bool) (b : List ℕ) → BasisIn n d p C b → (r : ℕ) → r < d → at b 1 r < 2 ^ n
-found-low n d p C b F r h = bits-lt (at b 1 r) n (F .thin r h)
+pub found-low : (σ n d p : ℕ) (C : ℕ → ℕ → Bool) (b : List ℕ) → BasisIn σ n d p C b → (r : ℕ) → r < d → cell σ b 1 r < 2 ^ n
+found-low σ n d p C b F r h = bits-lt (cell σ b 1 r) n (F .thin r h)

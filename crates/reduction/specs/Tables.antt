@@ -1,5 +1,6 @@
 -- The search and the reduction as tables hold them. The automaton has the rows M, or those of the table t, n states, initial row i and
--- final column f over a letters; the basis is the table b (blocks: see the crate elimination); the products done are the table s.
+-- final column f over a letters; the basis is the table b (blocks: see the crate elimination), whose stride is σ, or `width` where none is
+-- given; the products done are the table s.
 --   SearchIn     the search before the pair (k, l), with d rows found and the pivots p
 --   Searching    the same, the products in a table; v has every bit that a row found has
 --   Reduces      s is the automaton on the rows that b holds: the list of basis words is their tree
@@ -15,36 +16,37 @@ use Rattle.automata.specs.Mask.{bitOf}
 use Rattle.automata.specs.MinimalOf.{minimalOf, dimensionOf}
 use Rattle.automata.specs.Fields.{fields}
 use Rattle.automata.specs.Tree.{Tree}
+use Rattle.rows.specs.Row.{width}
 use Rattle.rows.specs.Table.{size, at, row}
 use Rattle.rows.specs.Machine.{autoBy, auto, Bounded}
-use Rattle.basis.specs.Basis.{basisSize}
+use Rattle.basis.specs.Basis.{basisSize, bits}
 use Rattle.elimination.specs.Place.{Covered}
 use Rattle.reduction.specs.Search.{Search}
 
-abbrev pub SearchIn : ℕ → (ℕ → ℕ → ℕ) → ℕ → ℕ → ℕ → List ℕ → (ℕ → ℕ → Bool) → (ℕ → ℕ) → (ℕ → ℕ) → (ℕ → ℕ → ℕ → Bool) → ℕ → ℕ → ℕ → ℕ → Type 0
-SearchIn a M n i f b C from by S d k l p = Search a (autoBy M n i f) d k l (bitOf p) (row b 1) (row b 0) C from by S
+abbrev pub SearchIn : ℕ → ℕ → (ℕ → ℕ → ℕ) → ℕ → ℕ → ℕ → List ℕ → (ℕ → ℕ → Bool) → (ℕ → ℕ) → (ℕ → ℕ) → (ℕ → ℕ → ℕ → Bool) → ℕ → ℕ → ℕ → ℕ → Type 0
+SearchIn σ a M n i f b C from by S d k l p = Search a (autoBy M n i f) d k l (bitOf p) (bits σ b 1) (bits σ b 0) C from by S
 
 -- Row r is row `from r` times letter `by r`: no table keeps them.
 pub record Searching (a : ℕ) (t : List ℕ) (n i f : ℕ) (b s : List ℕ) (d k l p v : ℕ) : Type 0 where
   pub from : ℕ → ℕ
   pub by : ℕ → ℕ
-  pub search : SearchIn a (at t) n i f b (row b 2) from by (row s) d k l p
-  pub cover : Covered d v b
+  pub search : SearchIn width a (at t) n i f b (bits width b 2) from by (row s) d k l p
+  pub cover : Covered width d v b
   pub base : length b ≡ basisSize
   pub out : length s ≡ size
 
 -- Whether row r of the basis b is accepted: it shares an odd number of bits with f.
-abbrev pub accepted : ℕ → List ℕ → ℕ → ℕ → Bool
-accepted n b f r = xorBelow n (λ j. row b 1 r j && bitOf f j)
+abbrev pub accepted : ℕ → ℕ → List ℕ → ℕ → ℕ → Bool
+accepted σ n b f r = xorBelow n (λ j. bits σ b 1 r j && bitOf f j)
 
 -- c names those of the first d rows of the basis b that are accepted.
 abbrev pub Column : ℕ → List ℕ → ℕ → ℕ → ℕ → Type 0
-Column n b d f c = (k : ℕ) → k < d → bitOf c k ≡ accepted n b f k
+Column n b d f c = (k : ℕ) → k < d → bitOf c k ≡ accepted width n b f k
 
 pub record Reduces (a : ℕ) (t : List ℕ) (n i f : ℕ) (b s : List ℕ) (d i′ f′ : ℕ) : Type 0 where
   pub from : ℕ → ℕ
   pub by : ℕ → ℕ
-  pub tree : Tree a (auto t n i f) (auto s d i′ f′) d (row b 1) from by
+  pub tree : Tree a (auto t n i f) (auto s d i′ f′) d (bits width b 1) from by
   pub bounded : Bounded a s d i′ f′
   pub base : length b ≡ basisSize
 

@@ -46,8 +46,8 @@ loop-less c = omega arith
 
 loop-again : tie.Need-loop-again Inv-loop μ-loop
 loop-again c =
-    let v = c .before .before .before .before .before .before .loop in
-    let s = c .before .before .before .before .before .before .before .before in
+    let v = c .before .before .before .before .before .before .before .loop in
+    let s = c .before .before .before .before .before .before .before .before .before in
     let a = s .args in
     let e = c .before .before .before .before .get .ensures in
     let low = subst (λ x. x < 2 ^ a .n) (sym e) (s .pre .1 (v .i) (omega arith)) in (

@@ -3,7 +3,7 @@ use mathlib.Core.Path.{_≡_}
 use Prim.Native.Nat.{_-_, _≤_, _<_}
 use native.Mathlib.Omega.{arith}
 use Rattle.rows.specs.Row.{width, mask}
-use Rattle.rows.specs.Table.{row}
+use Rattle.basis.specs.Basis.{bits}
 use Rattle.reduction.specs.Tables.{Searching}
 use Rattle.reduction.proofs.TableSearch.{count-bound}
 use Rattle.reduction.proofs.search.Statement.{statement}
@@ -21,7 +21,7 @@ below c =
     let s = l .before in
     let a = s .args in
     let v = l .loop in
-    omega (arith, count-bound (a .m .states) (v .r .count) (mask (v .r .pivots)) (row (v .b) 2) (v .b) (v .inv .1 .search .basis), s .pre .0 .states)
+    omega (arith, count-bound width (a .m .states) (v .r .count) (mask (v .r .pivots)) (bits width (v .b) 2) (v .b) (v .inv .1 .search .basis), s .pre .0 .states)
 
 loop-holds : tie.Need-loop-holds Inv-loop μ-loop
 loop-holds c = (omega arith, c .pre .1, omega arith, λ e. e)

@@ -3,9 +3,10 @@ use mathlib.Core.Path.{_≡_, sym, subst}
 use Prim.Native.Nat.{_^_, _<_}
 use native.Mathlib.Omega.{arith}
 use Rattle.automata.specs.Mask.{bitOf}
-use Rattle.rows.specs.Row.{mask}
+use Rattle.rows.specs.Row.{width, mask}
 use Rattle.rows.specs.Table.{at, row}
 use Rattle.rows.proofs.ProductLaws.{product-lt}
+use Rattle.basis.specs.Basis.{cell, bits}
 use Rattle.reduction.proofs.TableSearch.{count-bound, searching-step, placed-more, placed-kept}
 use Rattle.reduction.proofs.step.Statement.{statement}
 use Rattle.reduction.proofs.step.Tie as tie
@@ -15,13 +16,13 @@ place-requires c κs =
     let s = c .before in
     let a = s .args in
     let v = s .pre .0 in
-    (v .states, s .pre .1 .base, subst (λ y. y < 2 ^ a .m .states) (sym (s .pre .4)) (product-lt (a .m .states) (a .m .states) (at (a .b .now) 1 (a .k)) (at (a .t .now) (a .l)) (λ i h. v .rows (a .l) i (s .pre .3) h)), s .pre .1 .search .basis, s .pre .1 .cover)
+    (v .states, v .states, omega (arith, s .pre .1 .base), subst (λ y. y < 2 ^ a .m .states) (sym (s .pre .4)) (product-lt (a .m .states) (a .m .states) (cell width (a .b .now) 1 (a .k)) (at (a .t .now) (a .l)) (λ i h. v .rows (a .l) i (s .pre .3) h)), s .pre .1 .search .basis, s .pre .1 .cover)
 
 store-requires : tie.Need-store-requires
 store-requires c κs =
     let s = c .before .before .before .before in
     let a = s .args in
-    (omega (arith, s .pre .0 .letters, s .pre .3), omega (arith, count-bound (a .m .states) (a .s .count) (mask (a .s .pivots)) (row (a .b .now) 2) (a .b .now) (s .pre .1 .search .basis), s .pre .0 .states, s .pre .2))
+    (omega (arith, s .pre .0 .letters, s .pre .3), omega (arith, count-bound width (a .m .states) (a .s .count) (mask (a .s .pivots)) (bits width (a .b .now) 2) (a .b .now) (s .pre .1 .search .basis), s .pre .0 .states, s .pre .2))
 
 returns : tie.Need-returns
 returns c =
@@ -39,8 +40,8 @@ returns c =
     let e = q .last .0 in (
       searching-step (a .m .letters) (a .t .now) n (mask (a .m .initial)) (mask (a .m .finals)) (s .pre .0) b (a .out .now) d (a .k) (a .l) p v (s .pre .1) (s .pre .2) (s .pre .3)
           y (s .pre .4) (mask x) (z .count) (mask (z .pivots)) (mask (z .used)) e (c .before .store .last .0) (q .ensures) (c .before .store .ensures),
-      placed-more n d p v y (row b 2) (row e 2) (bitOf (mask x)) b e (z .count) (mask (z .pivots)) (mask (z .used)) (q .ensures),
-      placed-kept n d p v y (row b 2) (row e 2) (bitOf (mask x)) b e (z .count) (mask (z .pivots)) (mask (z .used)) (q .ensures) (a .k) (s .pre .2),
+      placed-more width n d p v y (bits width b 2) (bits width e 2) (bitOf (mask x)) b e (z .count) (mask (z .pivots)) (mask (z .used)) (q .ensures),
+      placed-kept width n d p v y (bits width b 2) (bits width e 2) (bitOf (mask x)) b e (z .count) (mask (z .pivots)) (mask (z .used)) (q .ensures) (a .k) (s .pre .2),
     )
 
 pub step-spec : {M : Type 1} → statement M
