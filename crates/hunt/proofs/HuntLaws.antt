@@ -13,10 +13,9 @@ use Rattle.automata.specs.Mask.{bitOf}
 use Rattle.automata.proofs.Xor.{eqb-same}
 use Rattle.automata.proofs.Below.{up-to}
 use Rattle.rows.specs.Row.{width}
-use Rattle.rows.specs.Table.{at, row}
 use Rattle.rows.specs.Product.{product}
 use Rattle.rows.specs.Machine.{autoBy}
-use Rattle.basis.specs.Basis.{basisSize}
+use Rattle.basis.specs.Basis.{cell, bits, Room}
 use Rattle.trail.specs.Trail.{trailSize, fromIn, byIn, linked}
 use Rattle.trail.proofs.LinkLaws.{linked-length, linked-from, linked-by, linked-from-new, linked-by-new}
 use Rattle.elimination.specs.Place.{BasisIn, Old, New, Placed}
@@ -46,32 +45,33 @@ with-new S k l v = if-same l (cond (eqb k k) v (S l k)) (S l k) ∙ if-same k v 
 
 -- ---- the initial row
 
-module _ (a : ℕ) (M : ℕ → ℕ → ℕ) (n i f : ℕ) (C C′ : ℕ → ℕ → Bool) (c : ℕ → Bool) (b b′ w : List ℕ) (d p v : ℕ) (P : Placed n 0 0 0 i C C′ c b b′ d p v) where
+module _ (σ a : ℕ) (M : ℕ → ℕ → ℕ) (n i f : ℕ) (C C′ : ℕ → ℕ → Bool) (c : ℕ → Bool) (b b′ w : List ℕ) (d p v : ℕ) (P : Placed σ n 0 0 0 i C C′ c b b′ d p v) where
   -- No product is done yet.
   nothing : ℕ → ℕ → ℕ → Bool
   nothing x j r = false
 
-  first-row : Placed n 0 0 0 i C C′ c b b′ d p v → (r : ℕ) → r < d → (r ≡ 0) × (at b′ 1 r ≡ i)
+  first-row : Placed σ n 0 0 0 i C C′ c b b′ d p v → (r : ℕ) → r < d → (r ≡ 0) × (cell σ b′ 1 r ≡ i)
   first-row (inl O) r h = absurd (omega (arith, O .count))
   first-row (inr N) r h =
       let z : r ≡ 0 = omega (arith, N .count) in
-      (z, ap (at b′ 1) z ∙ N .row-new)
+      (z, ap (cell σ b′ 1) z ∙ N .row-new)
 
-  pub hunting-start : length b ≡ basisSize → length w ≡ trailSize → shared n i f ≡ false → Hunting a M n i f b′ w d 0 0 p v
-  hunting-start h g e = record {
+  pub hunting-start : Room σ b → n ≤ σ → length w ≡ trailSize → shared n i f ≡ false → Hunting σ a M n i f b′ w d 0 0 p v
+  hunting-start h hn g e = record {
     coef = C′;
     made = nothing;
-    search = search-start a M n i f C C′ c b b′ (fromIn w) (byIn w) nothing d p v P;
-    cover = placed-cover n 0 0 0 i C C′ c b b′ d p v (empty-cover 0 b) P;
-    base = placed-length n 0 0 0 i C C′ c b b′ d p v h P;
+    search = search-start σ a M n i f C C′ c b b′ (fromIn w) (byIn w) nothing d p v P;
+    cover = placed-cover σ n 0 0 0 i C C′ c b b′ d p v (empty-cover σ 0 b) P;
+    base = omega (arith, placed-length σ n 0 0 0 i C C′ c b b′ d p v P);
+    fits = hn;
     trail = g;
     none = λ r g. ap (λ x. shared n x f) (first-row P r g .1) ∙ e;
   }
 
 -- ---- one pair
 
-module _ (a : ℕ) (M : ℕ → ℕ → ℕ) (n i f : ℕ) (hn : n ≤ width) (b w : List ℕ) (d k l p v : ℕ) (H : Hunting a M n i f b w d k l p v) (hk : k < d) (hl : l < a) (y : ℕ) (hy : y ≡ product n (at b 1 k) (M l))
-    (b′ : List ℕ) (d′ p′ v′ : ℕ) (I : (C : ℕ → ℕ → Bool) → BasisIn n d p C b → (C′ : ℕ → ℕ → Bool) × (c : ℕ → Bool) × Placed n d p v y C C′ c b b′ d′ p′ v′) where
+module _ (σ a : ℕ) (M : ℕ → ℕ → ℕ) (n i f : ℕ) (hn : n ≤ width) (b w : List ℕ) (d k l p v : ℕ) (H : Hunting σ a M n i f b w d k l p v) (hk : k < d) (hl : l < a) (y : ℕ) (hy : y ≡ product n (cell σ b 1 k) (M l))
+    (b′ : List ℕ) (d′ p′ v′ : ℕ) (I : (C : ℕ → ℕ → Bool) → BasisIn σ n d p C b → (C′ : ℕ → ℕ → Bool) × (c : ℕ → Bool) × Placed σ n d p v y C C′ c b b′ d′ p′ v′) where
   abbrev C : ℕ → ℕ → Bool
   C = H .coef
 
@@ -81,36 +81,37 @@ module _ (a : ℕ) (M : ℕ → ℕ → ℕ) (n i f : ℕ) (hn : n ≤ width) (b
   abbrev c : ℕ → Bool
   c = I C (H .search .basis) .1
 
-  P : Placed n d p v y C C′ c b b′ d′ p′ v′
+  P : Placed σ n d p v y C C′ c b b′ d′ p′ v′
   P = I C (H .search .basis) .2
 
   abbrev made′ : ℕ → ℕ → ℕ → Bool
   made′ = withRow (H .made) k l c
 
   -- The rows found before are as they were.
-  pub row-kept : (r : ℕ) → r < d → at b′ 1 r ≡ at b 1 r
+  pub row-kept : (r : ℕ) → r < d → cell σ b′ 1 r ≡ cell σ b 1 r
   row-kept r h = go P
     where
-      go : Placed n d p v y C C′ c b b′ d′ p′ v′ → at b′ 1 r ≡ at b 1 r
-      go (inl O) = ap (λ s. at s 1 r) (O .table)
+      go : Placed σ n d p v y C C′ c b b′ d′ p′ v′ → cell σ b′ 1 r ≡ cell σ b 1 r
+      go (inl O) = ap (λ s. cell σ s 1 r) (O .table)
       go (inr N) = N .row-old r h
 
-  kept : (r : ℕ) → r < d → accepted n b′ f r ≡ false
+  kept : (r : ℕ) → r < d → accepted σ n b′ f r ≡ false
   kept r h = ap (λ x. shared n x f) (row-kept r h) ∙ H .none r h
 
   -- No row is found.
-  pub hunting-old : d′ ≤ d → Hunting a M n i f b′ w d′ k (l + 1) p′ v′ × (d ≤ d′)
+  pub hunting-old : d′ ≤ d → Hunting σ a M n i f b′ w d′ k (l + 1) p′ v′ × (d ≤ d′)
   hunting-old h = go P
     where
-      go : Placed n d p v y C C′ c b b′ d′ p′ v′ → Hunting a M n i f b′ w d′ k (l + 1) p′ v′ × (d ≤ d′)
+      go : Placed σ n d p v y C C′ c b b′ d′ p′ v′ → Hunting σ a M n i f b′ w d′ k (l + 1) p′ v′ × (d ≤ d′)
       go (inr N) = absurd (omega (arith, N .count))
       go (inl O) = (
         record {
           coef = C′;
           made = made′;
-          search = search-old-row a M n i f b C (fromIn w) (byIn w) (H .made) d k l p (H .search) hk hl v d′ p′ v′ C′ c b′ made′ (λ x j h g. with-kept (H .made) k l c x j) (with-new (H .made) k l c) (subst (λ z. Old d p v z C C′ c b b′ d′ p′ v′) hy O);
-          cover = placed-cover n d p v y C C′ c b b′ d′ p′ v′ (H .cover) (inl O);
-          base = placed-length n d p v y C C′ c b b′ d′ p′ v′ (H .base) (inl O);
+          search = search-old-row σ a M n i f b C (fromIn w) (byIn w) (H .made) d k l p (H .search) hk hl v d′ p′ v′ C′ c b′ made′ (λ x j h g. with-kept (H .made) k l c x j) (with-new (H .made) k l c) (subst (λ z. Old σ d p v z C C′ c b b′ d′ p′ v′) hy O);
+          cover = placed-cover σ n d p v y C C′ c b b′ d′ p′ v′ (H .cover) (inl O);
+          base = omega (arith, placed-length σ n d p v y C C′ c b b′ d′ p′ v′ P, H .base);
+          fits = H .fits;
           trail = H .trail;
           none = λ r g. kept r (omega (arith, O .count));
         },
@@ -122,41 +123,42 @@ module _ (a : ℕ) (M : ℕ → ℕ → ℕ) (n i f : ℕ) (hn : n ≤ width) (b
     abbrev w′ : List ℕ
     w′ = linked w d k l
 
-    new : New n d y C′ c b b′ d′ p′ v′
+    new : New σ n d y C′ c b b′ d′ p′ v′
     new = go P
       where
-        go : Placed n d p v y C C′ c b b′ d′ p′ v′ → New n d y C′ c b b′ d′ p′ v′
+        go : Placed σ n d p v y C C′ c b b′ d′ p′ v′ → New σ n d y C′ c b b′ d′ p′ v′
         go (inl O) = absurd (omega (arith, O .count))
         go (inr N) = N
 
     pub new-below : d < width
     new-below = omega (arith, new .room)
 
-    pub grown-new : Last d y d′ b′
+    pub grown-new : Last σ d y d′ b′
     grown-new h = (omega (arith, new .count), new .row-new)
 
-    pub accepted-new : accepted n b′ f d ≡ shared n y f
+    pub accepted-new : accepted σ n b′ f d ≡ shared n y f
     accepted-new = ap (λ x. shared n x f) (new .row-new)
 
-    search′ : SearchIn a M n i f b′ C′ (fromIn w′) (byIn w′) made′ d′ k (l + 1) p′
-    search′ = search-new-row a M n i f b C (fromIn w) (byIn w) (H .made) d k l p (H .search) hk hl v d′ p′ v′ C′ c b′ made′ (λ x j h g. with-kept (H .made) k l c x j) (with-new (H .made) k l c)
-        (fromIn w′) (byIn w′) (linked-from w d k l new-below) (linked-from-new w d k l new-below (H .trail)) (linked-by w d k l new-below) (linked-by-new w d k l new-below (H .trail)) (subst (λ z. New n d z C′ c b b′ d′ p′ v′) hy new)
+    search′ : SearchIn σ a M n i f b′ C′ (fromIn w′) (byIn w′) made′ d′ k (l + 1) p′
+    search′ = search-new-row σ a M n i f b C (fromIn w) (byIn w) (H .made) d k l p (H .search) hk hl v d′ p′ v′ C′ c b′ made′ (λ x j h g. with-kept (H .made) k l c x j) (with-new (H .made) k l c)
+        (fromIn w′) (byIn w′) (linked-from w d k l new-below) (linked-from-new w d k l new-below (H .trail)) (linked-by w d k l new-below) (linked-by-new w d k l new-below (H .trail)) (subst (λ z. New σ n d z C′ c b b′ d′ p′ v′) hy new)
 
-    pub hunting-new : shared n y f ≡ false → Hunting a M n i f b′ w′ d′ k (l + 1) p′ v′ × (d ≤ d′)
+    pub hunting-new : shared n y f ≡ false → Hunting σ a M n i f b′ w′ d′ k (l + 1) p′ v′ × (d ≤ d′)
     hunting-new z = (
       record {
         coef = C′;
         made = made′;
         search = search′;
-        cover = placed-cover n d p v y C C′ c b b′ d′ p′ v′ (H .cover) P;
-        base = new .size;
+        cover = placed-cover σ n d p v y C C′ c b b′ d′ p′ v′ (H .cover) P;
+        base = omega (arith, new .size, H .base);
+        fits = H .fits;
         trail = linked-length w d k l new-below ∙ H .trail;
-        none = λ r h. up-to {Q = λ r. accepted n b′ f r ≡ false} d kept (accepted-new ∙ z) r (omega (arith, new .count));
+        none = λ r h. up-to {Q = λ r. accepted σ n b′ f r ≡ false} d kept (accepted-new ∙ z) r (omega (arith, new .count));
       },
       omega arith,
     )
 
-    pub stopped-new : shared n y f ≡ true → Stopped a M n i f b′ w′ d
+    pub stopped-new : shared n y f ≡ true → Stopped σ a M n i f b′ w′ d
     stopped-new z = record {
       coef = C′;
       made = made′;
@@ -171,17 +173,18 @@ module _ (a : ℕ) (M : ℕ → ℕ → ℕ) (n i f : ℕ) (hn : n ≤ width) (b
     }
 
 -- The next row, from its first letter.
-pub hunting-next : (a : ℕ) (M : ℕ → ℕ → ℕ) (n i f : ℕ) (b w : List ℕ) (d k p v : ℕ) → Hunting a M n i f b w d k a p v → Hunting a M n i f b w d (k + 1) 0 p v
-hunting-next a M n i f b w d k p v H = record {
+pub hunting-next : (σ a : ℕ) (M : ℕ → ℕ → ℕ) (n i f : ℕ) (b w : List ℕ) (d k p v : ℕ) → Hunting σ a M n i f b w d k a p v → Hunting σ a M n i f b w d (k + 1) 0 p v
+hunting-next σ a M n i f b w d k p v H = record {
   coef = H .coef;
   made = H .made;
-  search = rw (add-one k) (search-next a (autoBy M n i f) (bitOf p) (row b 1) (row b 0) (H .coef) (fromIn w) (byIn w) (H .made) d k (H .search));
+  search = rw (add-one k) (search-next a (autoBy M n i f) (bitOf p) (bits σ b 1) (bits σ b 0) (H .coef) (fromIn w) (byIn w) (H .made) d k (H .search));
   cover = H .cover;
   base = H .base;
+  fits = H .fits;
   trail = H .trail;
   none = H .none;
 }
 
 -- A row found is one of as many rows as a row has bits.
-pub stopped-bound : (a : ℕ) (M : ℕ → ℕ → ℕ) (n i f : ℕ) (b w : List ℕ) (r : ℕ) → n ≤ width → Stopped a M n i f b w r → r < width
-stopped-bound a M n i f b w r h H = omega (arith, count-bound n (H .count) (H .pivots) (H .coef) b (H .search .basis), H .inside .0)
+pub stopped-bound : (σ a : ℕ) (M : ℕ → ℕ → ℕ) (n i f : ℕ) (b w : List ℕ) (r : ℕ) → Stopped σ a M n i f b w r → r < n
+stopped-bound σ a M n i f b w r H = omega (arith, count-bound σ n (H .count) (H .pivots) (H .coef) b (H .search .basis), H .inside .0)

@@ -1,5 +1,5 @@
 -- The search for the first accepted row, which stops there. The automaton has the rows M, n states, initial row i and final column f over
--- a letters; the basis is the table b, the trail w.
+-- a letters; the basis is the table b with the stride σ, the trail w.
 --   shared      whether two rows of n bits share an odd number of them
 --   Hunting     no row found is accepted; the next pair is row k by letter l
 --   Stopped     row r is the first row found that is accepted
@@ -14,9 +14,8 @@ use Prim.Native.Nat.{ℕ, _+_, _<_, _≤_}
 use lib.ListN.{length}
 use Rattle.automata.specs.Xor.{xorBelow}
 use Rattle.automata.specs.Mask.{bitOf}
-use Rattle.rows.specs.Row.{width, mask}
-use Rattle.rows.specs.Table.{at}
-use Rattle.basis.specs.Basis.{basisSize}
+use Rattle.rows.specs.Row.{mask}
+use Rattle.basis.specs.Basis.{cell, Room}
 use Rattle.trail.specs.Trail.{trailSize, fromIn, byIn}
 use Rattle.elimination.specs.Place.{Covered, Placed}
 use Rattle.reduction.specs.Tables.{SearchIn, accepted}
@@ -27,46 +26,47 @@ abbrev pub shared : ℕ → ℕ → ℕ → Bool
 shared n x y = xorBelow n (λ j. bitOf x j && bitOf y j)
 
 -- The coefficients and the products done are in no table: `coef` and `made` name them.
-pub record Hunting (a : ℕ) (M : ℕ → ℕ → ℕ) (n i f : ℕ) (b w : List ℕ) (d k l p v : ℕ) : Type 0 where
+pub record Hunting (σ a : ℕ) (M : ℕ → ℕ → ℕ) (n i f : ℕ) (b w : List ℕ) (d k l p v : ℕ) : Type 0 where
   pub coef : ℕ → ℕ → Bool
   pub made : ℕ → ℕ → ℕ → Bool
-  pub search : SearchIn a M n i f b coef (fromIn w) (byIn w) made d k l p
-  pub cover : Covered d v b
-  pub base : length b ≡ basisSize
+  pub search : SearchIn σ a M n i f b coef (fromIn w) (byIn w) made d k l p
+  pub cover : Covered σ d v b
+  pub base : Room σ b
+  pub fits : n ≤ σ
   pub trail : length w ≡ trailSize
-  pub none : (r : ℕ) → r < d → accepted n b f r ≡ false
+  pub none : (r : ℕ) → r < d → accepted σ n b f r ≡ false
 
-pub record Stopped (a : ℕ) (M : ℕ → ℕ → ℕ) (n i f : ℕ) (b w : List ℕ) (r : ℕ) : Type 0 where
+pub record Stopped (σ a : ℕ) (M : ℕ → ℕ → ℕ) (n i f : ℕ) (b w : List ℕ) (r : ℕ) : Type 0 where
   pub coef : ℕ → ℕ → Bool
   pub made : ℕ → ℕ → ℕ → Bool
   pub count : ℕ
   pub upto : ℕ
   pub next : ℕ
   pub pivots : ℕ
-  pub search : SearchIn a M n i f b coef (fromIn w) (byIn w) made count upto next pivots
+  pub search : SearchIn σ a M n i f b coef (fromIn w) (byIn w) made count upto next pivots
   pub inside : (r < count) × (upto < count) × (next ≤ a)
-  pub found : accepted n b f r ≡ true
-  pub first : (q : ℕ) → q < r → accepted n b f q ≡ false
+  pub found : accepted σ n b f r ≡ true
+  pub first : (q : ℕ) → q < r → accepted σ n b f q ≡ false
 
-abbrev pub Hunted : ℕ → (ℕ → ℕ → ℕ) → ℕ → ℕ → ℕ → List ℕ → List ℕ → ℕ → ℕ → ℕ → Hunt → Type 0
-Hunted a M n i f b w d k l (Going s) = Hunting a M n i f b w (s .count) k l (mask (s .pivots)) (mask (s .used)) × (d ≤ s .count)
-Hunted a M n i f b w d k l (Found r) = Stopped a M n i f b w r
+abbrev pub Hunted : ℕ → ℕ → (ℕ → ℕ → ℕ) → ℕ → ℕ → ℕ → List ℕ → List ℕ → ℕ → ℕ → ℕ → Hunt → Type 0
+Hunted σ a M n i f b w d k l (Going s) = Hunting σ a M n i f b w (s .count) k l (mask (s .pivots)) (mask (s .used)) × (d ≤ s .count)
+Hunted σ a M n i f b w d k l (Found r) = Stopped σ a M n i f b w r
 
-abbrev pub Last : ℕ → ℕ → ℕ → List ℕ → Type 0
-Last k x d b = k < d → (d ≡ k + 1) × (at b 1 k ≡ x)
+abbrev pub Last : ℕ → ℕ → ℕ → ℕ → List ℕ → Type 0
+Last σ k x d b = k < d → (d ≡ k + 1) × (cell σ b 1 k ≡ x)
 
-abbrev pub Grown : ℕ → ℕ → List ℕ → Hunt → Type 0
-Grown d y b (Going s) = Last d y (s .count) b
-Grown d y b (Found r) = Unit
+abbrev pub Grown : ℕ → ℕ → ℕ → List ℕ → Hunt → Type 0
+Grown σ d y b (Going s) = Last σ d y (s .count) b
+Grown σ d y b (Found r) = Unit
 
 -- Every pair is done, or the search stopped.
-abbrev pub Ended : ℕ → (ℕ → ℕ → ℕ) → ℕ → ℕ → ℕ → List ℕ → List ℕ → Hunt → Type 0
-Ended a M n i f b w (Going s) = Hunting a M n i f b w (s .count) (s .count) 0 (mask (s .pivots)) (mask (s .used))
-Ended a M n i f b w (Found r) = Stopped a M n i f b w r
+abbrev pub Ended : ℕ → ℕ → (ℕ → ℕ → ℕ) → ℕ → ℕ → ℕ → List ℕ → List ℕ → Hunt → Type 0
+Ended σ a M n i f b w (Going s) = Hunting σ a M n i f b w (s .count) (s .count) 0 (mask (s .pivots)) (mask (s .used))
+Ended σ a M n i f b w (Found r) = Stopped σ a M n i f b w r
 
-pub record Started (n i : ℕ) (b b′ : List ℕ) (d p v : ℕ) : Type 0 where
+pub record Started (σ n i : ℕ) (b b′ : List ℕ) (d p v : ℕ) : Type 0 where
   pub coef : ℕ → ℕ → Bool
   pub coef′ : ℕ → ℕ → Bool
   pub made : ℕ → Bool
-  pub placed : Placed n 0 0 0 i coef coef′ made b b′ d p v
-  pub kept : (j : ℕ) → j < width → at b′ 2 j ≡ at b 2 j
+  pub placed : Placed σ n 0 0 0 i coef coef′ made b b′ d p v
+  pub kept : (j : ℕ) → j < σ → cell σ b′ 2 j ≡ cell σ b 2 j

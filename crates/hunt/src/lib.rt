@@ -1,14 +1,11 @@
 // The search for the first accepted row of two records side by side: what it has come to, where it starts, and its one step.
 ghost use mathlib.Core.Path.{_≡_};
 ghost use Prim.Native.Nat.{ℕ, _+_, _^_, _≤_, _<_};
-ghost use lib.ListN.{length};
 ghost use Rattle.rows.specs.Row.{width, mask};
-ghost use Rattle.rows.specs.Table.{at};
 ghost use Rattle.rows.specs.Product.{product};
-ghost use Rattle.basis.specs.Basis.{basisSize};
+ghost use Rattle.basis.specs.Basis.{cell, Room};
 ghost use Rattle.hunt.specs.Both.{besideOf, Paired};
 ghost use Rattle.hunt.specs.Hunt.{Hunting, Hunted, Grown, Started};
-use basis::Basis;
 use elimination::Size;
 use rows::Machine;
 use rows::Row;
@@ -25,19 +22,20 @@ pub fn try_pair(
     first: &[u8],
     second: &[u8],
     m: Machine,
-    b: &mut Basis,
+    b: &mut [u64],
+    stride: usize,
     w: &mut Trail,
     y: Row,
     s: Size,
     k: usize,
     l: usize,
 ) -> Hunt
-    requires { ⌜ Paired (now first) (now second) m × Hunting (m .letters) (besideOf (now first) (now second)) (m .states) (mask (m .initial)) (mask (m .finals)) (now b) (now w) (s .count) k l (mask (s .pivots)) (mask (s .used)) × (k < s .count) × (l < m .letters) × (mask y ≡ product (m .states) (at (now b) 1 k) (besideOf (now first) (now second) l)) ⌝ }
-    ensures { λ r. ⌜ Hunted (m .letters) (besideOf (now (first .entry)) (now (second .entry))) (m .states) (mask (m .initial)) (mask (m .finals)) (now (b .exit)) (now (w .exit)) (s .count) k (l + 1) r × (at (now (b .exit)) 1 k ≡ at (now (b .entry)) 1 k) × ((i : ℕ) → i < width → at (now (b .exit)) 2 i ≡ at (now (b .entry)) 2 i) × Grown (s .count) (mask y) (now (b .exit)) r ⌝ }
+    requires { ⌜ Paired (now first) (now second) m × Hunting stride (m .letters) (besideOf (now first) (now second)) (m .states) (mask (m .initial)) (mask (m .finals)) (now b) (now w) (s .count) k l (mask (s .pivots)) (mask (s .used)) × (k < s .count) × (l < m .letters) × (mask y ≡ product (m .states) (cell stride (now b) 1 k) (besideOf (now first) (now second) l)) ⌝ }
+    ensures { λ r. ⌜ Hunted stride (m .letters) (besideOf (now (first .entry)) (now (second .entry))) (m .states) (mask (m .initial)) (mask (m .finals)) (now (b .exit)) (now (w .exit)) (s .count) k (l + 1) r × (cell stride (now (b .exit)) 1 k ≡ cell stride (now (b .entry)) 1 k) × ((i : ℕ) → i < stride → cell stride (now (b .exit)) 2 i ≡ cell stride (now (b .entry)) 2 i) × Grown stride (s .count) (mask y) (now (b .exit)) r ⌝ }
 {
     let d = s.count;
     let f = m.finals;
-    let next = elimination::insert(b, m.states, s, y);
+    let next = elimination::insert(b, stride, m.states, s, y);
     if next.count <= d {
         return Hunt::Going(next);
     }
@@ -49,14 +47,15 @@ pub fn try_pair(
 }
 
 // The initial row is the first row found, unless it has no bits.
-pub fn start(b: &mut Basis, m: Machine) -> Size
-    requires { ⌜ (m .states ≤ width) × (mask (m .initial) < 2 ^ m .states) × (length (now b) ≡ basisSize) ⌝ }
-    ensures { λ r. ⌜ Started (m .states) (mask (m .initial)) (now (b .entry)) (now (b .exit)) (r .count) (mask (r .pivots)) (mask (r .used)) ⌝ }
+pub fn start(b: &mut [u64], stride: usize, m: Machine) -> Size
+    requires { ⌜ (m .states ≤ width) × (m .states ≤ stride) × (mask (m .initial) < 2 ^ m .states) × Room stride (now b) ⌝ }
+    ensures { λ r. ⌜ Started stride (m .states) (mask (m .initial)) (now (b .entry)) (now (b .exit)) (r .count) (mask (r .pivots)) (mask (r .used)) ⌝ }
 {
     let none = rows::none();
     let i = m.initial;
     elimination::insert(
         b,
+        stride,
         m.states,
         Size {
             count: 0,

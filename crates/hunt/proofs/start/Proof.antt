@@ -19,19 +19,22 @@ none-requires c κs = search needs
 
 insert-requires : tie.Need-insert-requires
 insert-requires c κs =
-    let s = c .before .before .before in
+    let s = c .before .before .before .before in
     let a = s .args in
     let n = a .m .states in
     let e = c .before .before .none in
-    (s .pre .0, s .pre .2, s .pre .1, (none-yet, subst (λ p. BasisIn n 0 p none-yet (a .b .now)) (sym (e .ensures)) (empty-basis n none-yet (a .b .now))), empty-cover (mask (e .result)) (a .b .now))
+    (s .pre .0, s .pre .1, s .pre .3, s .pre .2, (none-yet, subst (λ p. BasisIn (a .stride) n 0 p none-yet (a .b .now)) (sym (e .ensures)) (empty-basis (a .stride) n none-yet (a .b .now))), empty-cover (a .stride) (mask (e .result)) (a .b .now))
+
+same-length : tie.Need-same-length
+same-length c = search needs
 
 returns : tie.Need-returns
 returns c =
-    let a = c .before .before .before .before .args in
-    let e = rw (c .before .before .before .none .ensures) at (c .insert .ensures .0) in
-    let P = e none-yet (empty-basis (a .m .states) none-yet (a .b .now)) in
-    record { coef = none-yet; coef′ = P .0; made = P .1; placed = P .2; kept = λ j h. c .insert .ensures .1 2 j (omega arith) h }
+    let a = c .before .before .before .before .before .before .before .args in
+    let e = rw (c .before .before .before .before .before .none .ensures) at (c .before .before .insert .ensures .0) in
+    let P = e none-yet (empty-basis (a .stride) (a .m .states) none-yet (a .b .now)) in
+    record { coef = none-yet; coef′ = P .0; made = P .1; placed = P .2; kept = λ j h. c .before .before .insert .ensures .1 2 j (omega arith) h }
 
 pub start-spec : {M : Type 1} → statement M
 start-spec =
-    tie.close (tie.spec none-requires insert-requires returns)
+    tie.close (tie.spec none-requires insert-requires same-length returns)

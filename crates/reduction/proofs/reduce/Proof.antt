@@ -3,7 +3,6 @@ use mathlib.Core.Path.{refl, sym, subst}
 use native.Mathlib.Omega.{arith}
 use Rattle.automata.specs.Mask.{bitOf}
 use Rattle.rows.specs.Row.{width, mask}
-use Rattle.rows.specs.Table.{row}
 use Rattle.basis.specs.Basis.{bits}
 use Rattle.elimination.specs.Place.{BasisIn, Placed}
 use Rattle.reduction.proofs.TableSearch.{count-bound, found-low, empty-basis, empty-cover, searching-start, start-row, searching-end}

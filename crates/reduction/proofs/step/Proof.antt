@@ -4,7 +4,7 @@ use Prim.Native.Nat.{_^_, _<_}
 use native.Mathlib.Omega.{arith}
 use Rattle.automata.specs.Mask.{bitOf}
 use Rattle.rows.specs.Row.{width, mask}
-use Rattle.rows.specs.Table.{at, row}
+use Rattle.rows.specs.Table.{at}
 use Rattle.rows.proofs.ProductLaws.{product-lt}
 use Rattle.basis.specs.Basis.{cell, bits}
 use Rattle.reduction.proofs.TableSearch.{count-bound, searching-step, placed-more, placed-kept}
