@@ -4,44 +4,50 @@ ghost use mathlib.Core.Bool.{false};
 ghost use Prim.Native.Nat.{_+_, _≤_, _<_};
 ghost use lib.ListN.{length};
 ghost use Rattle.rows.specs.Row.{mask};
-ghost use Rattle.rows.specs.Table.{at};
-ghost use Rattle.basis.specs.Basis.{basisSize};
+ghost use Rattle.basis.specs.Basis.{Room};
 ghost use Rattle.trail.specs.Trail.{trailSize};
 ghost use Rattle.record.specs.Record.{maxStates, statesOf, rowAt, WellFormed};
 ghost use Rattle.hunt.specs.Both.{besideOf, Paired};
 ghost use Rattle.hunt.specs.Hunt.{shared, Hunting, Last, Ended};
 ghost use Rattle.chain.specs.Chain.{Laid, SideBySide};
-use basis::Basis;
 use elimination::Size;
 use hunt::Hunt;
 use rows::Machine;
 use trail::Trail;
 
 // The rows of a record's first letter, each moved up by k bits, into block 2 from row k on.
-fn lay(bytes: &[u8], k: usize, b: &mut Basis)
-    requires { ⌜ WellFormed (now bytes) × (k ≤ maxStates) × (length (now b) ≡ basisSize) ⌝ }
-    ensures { λ _. ⌜ Laid (statesOf (now (bytes .entry))) k (rowAt (now (bytes .entry)) 0) (now (b .entry)) (now (b .exit)) ⌝ }
+fn lay(bytes: &[u8], k: usize, b: &mut [u64], stride: usize)
+    requires { ⌜ WellFormed (now bytes) × (k ≤ maxStates) × (k + statesOf (now bytes) ≤ stride) × Room stride (now b) ⌝ }
+    ensures { λ _. ⌜ Laid stride (statesOf (now (bytes .entry))) k (rowAt (now (bytes .entry)) 0) (now (b .entry)) (now (b .exit)) ⌝ }
 {
     let n = record::size(bytes[5]);
     let mut i = 0;
     while i < n {
         let x = products::row_at(bytes, n, 0, i);
-        basis::put(b, 2, k + i, rows::moved(x, k));
+        basis::put(b, stride, 2, k + i, rows::moved(x, k));
         i += 1;
     }
 }
 
 // Over one letter the row found last is the next one to try, so it is kept at hand; the rows to multiply it by are in block 2.
-fn try_chain(first: &[u8], second: &[u8], m: Machine, b: &mut Basis, w: &mut Trail, s: Size) -> Hunt
-    requires { ⌜ Paired (now first) (now second) m × (m .letters ≡ 1) × Hunting (m .letters) (besideOf (now first) (now second)) (m .states) (mask (m .initial)) (mask (m .finals)) (now b) (now w) (s .count) 0 0 (mask (s .pivots)) (mask (s .used)) × SideBySide (now first) (now second) (m .states) (now b) × Last 0 (mask (m .initial)) (s .count) (now b) ⌝ }
-    ensures { λ r. ⌜ Ended (m .letters) (besideOf (now (first .entry)) (now (second .entry))) (m .states) (mask (m .initial)) (mask (m .finals)) (now (b .exit)) (now (w .exit)) r ⌝ }
+fn try_chain(
+    first: &[u8],
+    second: &[u8],
+    m: Machine,
+    b: &mut [u64],
+    stride: usize,
+    w: &mut Trail,
+    s: Size,
+) -> Hunt
+    requires { ⌜ Paired (now first) (now second) m × (m .letters ≡ 1) × Hunting stride (m .letters) (besideOf (now first) (now second)) (m .states) (mask (m .initial)) (mask (m .finals)) (now b) (now w) (s .count) 0 0 (mask (s .pivots)) (mask (s .used)) × SideBySide stride (now first) (now second) (m .states) (now b) × Last stride 0 (mask (m .initial)) (s .count) (now b) ⌝ }
+    ensures { λ r. ⌜ Ended stride (m .letters) (besideOf (now (first .entry)) (now (second .entry))) (m .states) (mask (m .initial)) (mask (m .finals)) (now (b .exit)) (now (w .exit)) r ⌝ }
 {
     let mut t = s;
     let mut k: usize = 0;
     let mut x = m.initial;
     while k < t.count {
-        let y = basis::times(b, 2, x);
-        let h = hunt::try_pair(first, second, m, b, w, y, t, k, 0);
+        let y = basis::times(b, stride, 2, x);
+        let h = hunt::try_pair(first, second, m, b, stride, w, y, t, k, 0);
         let Hunt::Going(next) = h else {
             return h;
         };
@@ -53,13 +59,20 @@ fn try_chain(first: &[u8], second: &[u8], m: Machine, b: &mut Basis, w: &mut Tra
 }
 
 // The search over one letter.
-pub fn first_along(first: &[u8], second: &[u8], m: Machine, b: &mut Basis, w: &mut Trail) -> Hunt
-    requires { ⌜ Paired (now first) (now second) m × (length (now b) ≡ basisSize) × (length (now w) ≡ trailSize) × (shared (m .states) (mask (m .initial)) (mask (m .finals)) ≡ false) × (m .letters ≡ 1) ⌝ }
-    ensures { λ r. ⌜ Ended (m .letters) (besideOf (now (first .entry)) (now (second .entry))) (m .states) (mask (m .initial)) (mask (m .finals)) (now (b .exit)) (now (w .exit)) r ⌝ }
+pub fn first_along(
+    first: &[u8],
+    second: &[u8],
+    m: Machine,
+    b: &mut [u64],
+    stride: usize,
+    w: &mut Trail,
+) -> Hunt
+    requires { ⌜ Paired (now first) (now second) m × (m .states ≤ stride) × Room stride (now b) × (length (now w) ≡ trailSize) × (shared (m .states) (mask (m .initial)) (mask (m .finals)) ≡ false) × (m .letters ≡ 1) ⌝ }
+    ensures { λ r. ⌜ Ended stride (m .letters) (besideOf (now (first .entry)) (now (second .entry))) (m .states) (mask (m .initial)) (mask (m .finals)) (now (b .exit)) (now (w .exit)) r ⌝ }
 {
     let n = record::size(first[5]);
-    lay(first, 0, b);
-    lay(second, n, b);
-    let s = hunt::start(b, m);
-    try_chain(first, second, m, b, w, s)
+    lay(first, 0, b, stride);
+    lay(second, n, b, stride);
+    let s = hunt::start(b, stride, m);
+    try_chain(first, second, m, b, stride, w, s)
 }
