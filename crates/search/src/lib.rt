@@ -1,14 +1,13 @@
 // The search for the first accepted row of two well-formed records side by side, straight from their bytes.
 ghost use mathlib.Core.Path.{_≡_};
 ghost use mathlib.Core.Bool.{false};
-ghost use Prim.Native.Nat.{_+_, _<_};
+ghost use Prim.Native.Nat.{_+_, _≤_, _<_};
 ghost use lib.ListN.{length};
 ghost use Rattle.rows.specs.Row.{mask};
-ghost use Rattle.basis.specs.Basis.{basisSize};
+ghost use Rattle.basis.specs.Basis.{Room};
 ghost use Rattle.trail.specs.Trail.{trailSize};
 ghost use Rattle.hunt.specs.Both.{besideOf, Paired};
 ghost use Rattle.hunt.specs.Hunt.{shared, Hunting, Hunted, Ended};
-use basis::Basis;
 use elimination::Size;
 use hunt::Hunt;
 use rows::Machine;
@@ -19,23 +18,24 @@ fn try_row(
     first: &[u8],
     second: &[u8],
     m: Machine,
-    b: &mut Basis,
+    b: &mut [u64],
+    stride: usize,
     w: &mut Trail,
     s: Size,
     k: usize,
 ) -> Hunt
-    requires { ⌜ Paired (now first) (now second) m × Hunting (m .letters) (besideOf (now first) (now second)) (m .states) (mask (m .initial)) (mask (m .finals)) (now b) (now w) (s .count) k 0 (mask (s .pivots)) (mask (s .used)) × (k < s .count) ⌝ }
-    ensures { λ r. ⌜ Hunted (m .letters) (besideOf (now (first .entry)) (now (second .entry))) (m .states) (mask (m .initial)) (mask (m .finals)) (now (b .exit)) (now (w .exit)) (s .count) (k + 1) 0 r ⌝ }
+    requires { ⌜ Paired (now first) (now second) m × Hunting stride (m .letters) (besideOf (now first) (now second)) (m .states) (mask (m .initial)) (mask (m .finals)) (now b) (now w) (s .count) k 0 (mask (s .pivots)) (mask (s .used)) × (k < s .count) ⌝ }
+    ensures { λ r. ⌜ Hunted stride (m .letters) (besideOf (now (first .entry)) (now (second .entry))) (m .states) (mask (m .initial)) (mask (m .finals)) (now (b .exit)) (now (w .exit)) (s .count) (k + 1) 0 r ⌝ }
 {
     let a = m.letters;
-    let x = basis::get(b, 1, k);
+    let x = basis::get(b, stride, 1, k);
     let mut y = [0u64; 8];
     pair_products::times_both(first, second, x, &mut y);
     let mut r = s;
     let mut l: usize = 0;
     while l < a {
         let z = kernels::pick(&y, l);
-        let h = hunt::try_pair(first, second, m, b, w, z, r, k, l);
+        let h = hunt::try_pair(first, second, m, b, stride, w, z, r, k, l);
         let Hunt::Going(next) = h else {
             return h;
         };
@@ -46,14 +46,22 @@ fn try_row(
 }
 
 // Every row by every letter, until a row is accepted.
-fn try_rows(first: &[u8], second: &[u8], m: Machine, b: &mut Basis, w: &mut Trail, s: Size) -> Hunt
-    requires { ⌜ Paired (now first) (now second) m × Hunting (m .letters) (besideOf (now first) (now second)) (m .states) (mask (m .initial)) (mask (m .finals)) (now b) (now w) (s .count) 0 0 (mask (s .pivots)) (mask (s .used)) ⌝ }
-    ensures { λ r. ⌜ Ended (m .letters) (besideOf (now (first .entry)) (now (second .entry))) (m .states) (mask (m .initial)) (mask (m .finals)) (now (b .exit)) (now (w .exit)) r ⌝ }
+fn try_rows(
+    first: &[u8],
+    second: &[u8],
+    m: Machine,
+    b: &mut [u64],
+    stride: usize,
+    w: &mut Trail,
+    s: Size,
+) -> Hunt
+    requires { ⌜ Paired (now first) (now second) m × Hunting stride (m .letters) (besideOf (now first) (now second)) (m .states) (mask (m .initial)) (mask (m .finals)) (now b) (now w) (s .count) 0 0 (mask (s .pivots)) (mask (s .used)) ⌝ }
+    ensures { λ r. ⌜ Ended stride (m .letters) (besideOf (now (first .entry)) (now (second .entry))) (m .states) (mask (m .initial)) (mask (m .finals)) (now (b .exit)) (now (w .exit)) r ⌝ }
 {
     let mut r = s;
     let mut k: usize = 0;
     while k < r.count {
-        let h = try_row(first, second, m, b, w, r, k);
+        let h = try_row(first, second, m, b, stride, w, r, k);
         let Hunt::Going(next) = h else {
             return h;
         };
@@ -64,14 +72,21 @@ fn try_rows(first: &[u8], second: &[u8], m: Machine, b: &mut Basis, w: &mut Trai
 }
 
 // The first accepted row of the two side by side, in shortlex order of the words that lead to the rows; the initial row is not accepted.
-pub fn first_accepted(first: &[u8], second: &[u8], m: Machine, b: &mut Basis, w: &mut Trail) -> Hunt
-    requires { ⌜ Paired (now first) (now second) m × (length (now b) ≡ basisSize) × (length (now w) ≡ trailSize) × (shared (m .states) (mask (m .initial)) (mask (m .finals)) ≡ false) ⌝ }
-    ensures { λ r. ⌜ Ended (m .letters) (besideOf (now (first .entry)) (now (second .entry))) (m .states) (mask (m .initial)) (mask (m .finals)) (now (b .exit)) (now (w .exit)) r ⌝ }
+pub fn first_accepted(
+    first: &[u8],
+    second: &[u8],
+    m: Machine,
+    b: &mut [u64],
+    stride: usize,
+    w: &mut Trail,
+) -> Hunt
+    requires { ⌜ Paired (now first) (now second) m × (m .states ≤ stride) × Room stride (now b) × (length (now w) ≡ trailSize) × (shared (m .states) (mask (m .initial)) (mask (m .finals)) ≡ false) ⌝ }
+    ensures { λ r. ⌜ Ended stride (m .letters) (besideOf (now (first .entry)) (now (second .entry))) (m .states) (mask (m .initial)) (mask (m .finals)) (now (b .exit)) (now (w .exit)) r ⌝ }
 {
     let a = m.letters;
     if a == 1 {
-        return chain::first_along(first, second, m, b, w);
+        return chain::first_along(first, second, m, b, stride, w);
     }
-    let s = hunt::start(b, m);
-    try_rows(first, second, m, b, w, s)
+    let s = hunt::start(b, stride, m);
+    try_rows(first, second, m, b, stride, w, s)
 }
