@@ -7,6 +7,12 @@ ghost use Rattle.basis.specs.Basis.{parts, cell, written, Room};
 use kernels::Two;
 use rows::Row;
 
+// The stride that serves every row: as many rows a block as a row has bits.
+pub const WIDEST: usize = 64;
+
+// A table of that stride.
+pub type Basis = [u64; 192];
+
 // Row i of block l, which stands at l * stride + i.
 pub fn get(b: &[u64], stride: usize, l: usize, i: usize) -> Row
     requires { ⌜ Room stride (now b) × (l < parts) × (i < stride) ⌝ }

@@ -19,11 +19,11 @@ use Rattle.automata.proofs.Operations.{initial-low, accepts-sum}
 use Rattle.automata.proofs.Minimal.{bits-language}
 use Rattle.automata.proofs.FirstDifference.{some-difference}
 use Rattle.rows.specs.declared.Machine.{Machine}
-use Rattle.rows.specs.Row.{mask}
-use Rattle.rows.specs.Table.{blocks, at, row}
+use Rattle.rows.specs.Row.{width, mask}
+use Rattle.rows.specs.Table.{blocks}
 use Rattle.rows.specs.Machine.{autoBy}
 use Rattle.rows.proofs.BitLaws.{bit-none}
-use Rattle.basis.specs.Basis.{basisSize}
+use Rattle.basis.specs.Basis.{basisSize, cell, bits}
 use Rattle.trail.specs.Trail.{trailSize, fromIn, byIn}
 use Rattle.elimination.specs.Place.{Placed}
 use Rattle.record.specs.Bytes.{number}
@@ -53,33 +53,33 @@ module _ (bs cs : List ℕ) (m : Machine) (P : Paired bs cs m) where
   both = autoBy (besideOf bs cs) (m .states) (mask (m .initial)) (mask (m .finals))
 
   -- Every pair is done and no row is accepted.
-  pub judged-same : (b w : List ℕ) (d p v : ℕ) → Hunting a (besideOf bs cs) (m .states) (mask (m .initial)) (mask (m .finals)) b w d d 0 p v → firstDifference (lettersOf bs) A B ≡ none
-  judged-same b w d p v H = subst (λ x. firstDifference x A B ≡ none) (P .letters)
-      (no-row a both A B (paired-thin bs cs m P) (paired-bits bs cs m P) d d 0 (bitOf p) (row b 1) (row b 0) (H .coef) (fromIn w) (byIn w) (H .made) (H .search) (H .none))
+  pub judged-same : (σ : ℕ) (b w : List ℕ) (d p v : ℕ) → Hunting σ a (besideOf bs cs) (m .states) (mask (m .initial)) (mask (m .finals)) b w d d 0 p v → firstDifference (lettersOf bs) A B ≡ none
+  judged-same σ b w d p v H = subst (λ x. firstDifference x A B ≡ none) (P .letters)
+      (no-row a both A B (paired-thin bs cs m P) (paired-bits bs cs m P) d d 0 (bitOf p) (bits σ b 1) (bits σ b 0) (H .coef) (fromIn w) (byIn w) (H .made) (H .search) (H .none))
 
   -- No state is initial: the search is over before it begins.
   pub judged-none : (w : List ℕ) → length w ≡ trailSize → shared (m .states) (mask (m .initial)) (mask (m .finals)) ≡ false → mask (m .initial) ≡ 0 → firstDifference (lettersOf bs) A B ≡ none
-  judged-none w h e z = judged-same empty w 0 0 0 (hunting-start a (besideOf bs cs) (m .states) (mask (m .initial)) (mask (m .finals)) (λ j r. false) (λ j r. false) (λ r. false) empty empty w 0 0 0 placed (length-replicate {A = ℕ} basisSize 0) h e)
+  judged-none w h e z = judged-same width empty w 0 0 0 (hunting-start width a (besideOf bs cs) (m .states) (mask (m .initial)) (mask (m .finals)) (λ j r. false) (λ j r. false) (λ r. false) empty empty w 0 0 0 placed (omega (arith, length-replicate {A = ℕ} basisSize 0)) (paired-sizes bs cs m P .1) h e)
     where
       empty : List ℕ
       empty = replicate basisSize 0
 
-      placed : Placed (m .states) 0 0 0 (mask (m .initial)) (λ j r. false) (λ j r. false) (λ r. false) empty empty 0 0 0
+      placed : Placed width (m .states) 0 0 0 (mask (m .initial)) (λ j r. false) (λ j r. false) (λ r. false) empty empty 0 0 0
       placed = inl (record { count = refl; pivots = refl; used = refl; table = refl; coef = refl; sum = λ k. ap (λ x. bitOf x k) z ∙ bit-none k; short = λ i g. refl })
 
   -- The search stopped at row r.
-  pub judged-differs : (b w : List ℕ) (r : ℕ) (first : Bool) → first ≡ shared (statesOf bs) (number rowBytes bs finalAt) (at b 1 r)
-      → Stopped a (besideOf bs cs) (m .states) (mask (m .initial)) (mask (m .finals)) b w r → Found (lettersOf bs) A B w r first
-  judged-differs b w r first e H = subst (λ x. Found x A B w r first) (P .letters) (record {
-    word = first-row a both A B (paired-thin bs cs m P) (paired-bits bs cs m P) (H .count) (H .upto) (H .next) (bitOf (H .pivots)) (row b 1) (row b 0) (H .coef) (fromIn w) (byIn w) (H .made) (H .inside .2) (H .inside .1) (H .search) r (H .inside .0) (H .found) (H .first);
-    side = e ∙ xor-cong (statesOf bs) (λ j g. and-comm (bitOf (number rowBytes bs finalAt) j) (row b 1 r j))
-        ∙ sym (row-side a both A B (paired-thin bs cs m P) (paired-bits bs cs m P) (H .count) (H .upto) (H .next) (bitOf (H .pivots)) (row b 1) (row b 0) (H .coef) (fromIn w) (byIn w) (H .made) (H .inside .2) (H .inside .1) (H .search) r (H .inside .0));
+  pub judged-differs : (σ : ℕ) (b w : List ℕ) (r : ℕ) (first : Bool) → first ≡ shared (statesOf bs) (number rowBytes bs finalAt) (cell σ b 1 r)
+      → Stopped σ a (besideOf bs cs) (m .states) (mask (m .initial)) (mask (m .finals)) b w r → Found (lettersOf bs) A B w r first
+  judged-differs σ b w r first e H = subst (λ x. Found x A B w r first) (P .letters) (record {
+    word = first-row a both A B (paired-thin bs cs m P) (paired-bits bs cs m P) (H .count) (H .upto) (H .next) (bitOf (H .pivots)) (bits σ b 1) (bits σ b 0) (H .coef) (fromIn w) (byIn w) (H .made) (H .inside .2) (H .inside .1) (H .search) r (H .inside .0) (H .found) (H .first);
+    side = e ∙ xor-cong (statesOf bs) (λ j g. and-comm (bitOf (number rowBytes bs finalAt) j) (bits σ b 1 r j))
+        ∙ sym (row-side a both A B (paired-thin bs cs m P) (paired-bits bs cs m P) (H .count) (H .upto) (H .next) (bitOf (H .pivots)) (bits σ b 1) (bits σ b 0) (H .coef) (fromIn w) (byIn w) (H .made) (H .inside .2) (H .inside .1) (H .search) r (H .inside .0));
     traced = record {
-      small = stopped-bound a (besideOf bs cs) (m .states) (mask (m .initial)) (mask (m .finals)) b w r (paired-sizes bs cs m P .1) H;
+      small = omega (arith, stopped-bound σ a (besideOf bs cs) (m .states) (mask (m .initial)) (mask (m .finals)) b w r H, paired-sizes bs cs m P .1);
       letters = paired-sizes bs cs m P .2;
       parent = λ q p h. H .search .parent q p (omega (arith, H .inside .0));
       letter = λ q p h. H .search .letter q p (omega (arith, H .inside .0));
-      word = λ q p h. row-word a both A B (paired-thin bs cs m P) (paired-bits bs cs m P) (H .count) (H .upto) (H .next) (bitOf (H .pivots)) (row b 1) (row b 0) (H .coef) (fromIn w) (byIn w) (H .made) (H .inside .2) (H .inside .1) (H .search) q p (omega (arith, H .inside .0));
+      word = λ q p h. row-word a both A B (paired-thin bs cs m P) (paired-bits bs cs m P) (H .count) (H .upto) (H .next) (bitOf (H .pivots)) (bits σ b 1) (bits σ b 0) (H .coef) (fromIn w) (byIn w) (H .made) (H .inside .2) (H .inside .1) (H .search) q p (omega (arith, H .inside .0));
     };
   })
 

@@ -4,6 +4,7 @@ ghost use mathlib.Core.Bool.{false};
 ghost use Prim.Native.Nat.{_≤_};
 ghost use lib.ListN.{length};
 ghost use Rattle.rows.specs.Row.{mask};
+ghost use Rattle.basis.specs.Basis.{Room};
 ghost use Rattle.trail.specs.Trail.{trailSize};
 ghost use Rattle.record.specs.Bytes.{number};
 ghost use Rattle.record.specs.Record.{rowBytes, finalAt, lettersOf, WellFormed, automatonOf};
@@ -42,6 +43,9 @@ pub enum Verdict {
     Differs { row: usize, first: bool },
 }
 
+// How many states of both records together are few: the stride of a basis for them.
+const FEW: usize = 8;
+
 // Two records of at most two states together: a word of at most one letter tells their languages apart, if any does.
 fn first_letter(first: &[u8], second: &[u8], m: Machine, g: Row, w: &mut Trail) -> Verdict
     requires { ⌜ Paired (now first) (now second) m × (m .states ≤ 2) × (length (now w) ≡ trailSize) × (shared (m .states) (mask (m .initial)) (mask (m .finals)) ≡ false) × (mask g ≡ number rowBytes (now first) finalAt) ⌝ }
@@ -64,9 +68,6 @@ fn first_letter(first: &[u8], second: &[u8], m: Machine, g: Row, w: &mut Trail) 
     }
     Verdict::Same
 }
-
-// Up to so many states of both records together, the rows over one letter are followed one by one.
-const FEW: usize = 8;
 
 // Over one letter there is one word of each length, and one of fewer letters than both have states tells two languages apart, if any does.
 // So the row of each is tried in turn, and no basis is needed; where the initial row comes again, all that follows was tried before.
@@ -96,21 +97,46 @@ fn first_power(first: &[u8], second: &[u8], m: Machine, g: Row, w: &mut Trail) -
     Verdict::Same
 }
 
-// The search over both side by side for the first row that just one accepts.
-fn first_row(first: &[u8], second: &[u8], m: Machine, g: Row, w: &mut Trail) -> Verdict
-    requires { ⌜ Paired (now first) (now second) m × (length (now w) ≡ trailSize) × (shared (m .states) (mask (m .initial)) (mask (m .finals)) ≡ false) × (mask g ≡ number rowBytes (now first) finalAt) ⌝ }
+// The search over both side by side for the first row that just one accepts, in a lent basis.
+fn first_row(
+    first: &[u8],
+    second: &[u8],
+    m: Machine,
+    g: Row,
+    b: &mut [u64],
+    stride: usize,
+    w: &mut Trail,
+) -> Verdict
+    requires { ⌜ Paired (now first) (now second) m × (length (now w) ≡ trailSize) × (shared (m .states) (mask (m .initial)) (mask (m .finals)) ≡ false) × (mask g ≡ number rowBytes (now first) finalAt) × (m .states ≤ stride) × Room stride (now b) ⌝ }
     ensures { λ r. ⌜ Judged (lettersOf (now (first .entry))) (automatonOf (now (first .entry))) (automatonOf (now (second .entry))) (now (w .exit)) r ⌝ }
 {
-    let mut b = [0u64; 192];
-    let found = search::first_accepted(first, second, m, &mut b, w);
+    let found = search::first_accepted(first, second, m, b, stride, w);
     let Hunt::Found(r) = found else {
         return Verdict::Same;
     };
-    let x = basis::get(&b, 1, r);
+    let x = basis::get(b, stride, 1, r);
     Verdict::Differs {
         row: r,
         first: rows::parity(g, x),
     }
+}
+
+// The same in a basis for few states: what is to be cleared is then no more than a machine of few states is worth.
+fn search_few(first: &[u8], second: &[u8], m: Machine, g: Row, w: &mut Trail) -> Verdict
+    requires { ⌜ Paired (now first) (now second) m × (length (now w) ≡ trailSize) × (shared (m .states) (mask (m .initial)) (mask (m .finals)) ≡ false) × (mask g ≡ number rowBytes (now first) finalAt) × (m .states ≤ 8) ⌝ }
+    ensures { λ r. ⌜ Judged (lettersOf (now (first .entry))) (automatonOf (now (first .entry))) (automatonOf (now (second .entry))) (now (w .exit)) r ⌝ }
+{
+    let mut b = [0u64; 24];
+    first_row(first, second, m, g, &mut b, FEW, w)
+}
+
+// The same in a basis for as many states as two records can have.
+fn search_many(first: &[u8], second: &[u8], m: Machine, g: Row, w: &mut Trail) -> Verdict
+    requires { ⌜ Paired (now first) (now second) m × (length (now w) ≡ trailSize) × (shared (m .states) (mask (m .initial)) (mask (m .finals)) ≡ false) × (mask g ≡ number rowBytes (now first) finalAt) ⌝ }
+    ensures { λ r. ⌜ Judged (lettersOf (now (first .entry))) (automatonOf (now (first .entry))) (automatonOf (now (second .entry))) (now (w .exit)) r ⌝ }
+{
+    let mut b = [0u64; 192];
+    first_row(first, second, m, g, &mut b, basis::WIDEST, w)
 }
 
 // The first word of one letter or more that just one accepts, by the shortest way for so many states and letters.
@@ -121,12 +147,13 @@ fn first_longer(first: &[u8], second: &[u8], m: Machine, g: Row, w: &mut Trail) 
     if m.states <= 2 {
         return first_letter(first, second, m, g, w);
     }
-    if m.letters == 1 {
-        if m.states <= FEW {
-            return first_power(first, second, m, g, w);
-        }
+    if FEW < m.states {
+        return search_many(first, second, m, g, w);
     }
-    first_row(first, second, m, g, w)
+    if m.letters == 1 {
+        return first_power(first, second, m, g, w);
+    }
+    search_few(first, second, m, g, w)
 }
 
 // Compares the words of two well-formed records over the same letters; w is left with the words of the rows found.

@@ -9,6 +9,8 @@ ghost use Rattle.rows.specs.Machine.{automatonIn, Valid};
 ghost use Rattle.rows.specs.Product.{product};
 ghost use Rattle.basis.specs.Basis.{basisSize, cell};
 ghost use Rattle.reduction.specs.Tables.{Searching, Column, Reduces, Minimises};
+use basis::Basis;
+use basis::WIDEST;
 use elimination::Size;
 use rows::Machine;
 use rows::Row;
@@ -18,7 +20,7 @@ use rows::Table;
 pub fn step(
     t: &Table,
     m: Machine,
-    b: &mut [u64; 192],
+    b: &mut Basis,
     out: &mut Table,
     y: Row,
     s: Size,
@@ -28,26 +30,19 @@ pub fn step(
     requires { ⌜ Valid (now t) m × Searching (m .letters) (now t) (m .states) (mask (m .initial)) (mask (m .finals)) (now b) (now out) (s .count) k l (mask (s .pivots)) (mask (s .used)) × (k < s .count) × (l < m .letters) × (mask y ≡ product (m .states) (cell width (now b) 1 k) (at (now t) l)) ⌝ }
     ensures { λ r. ⌜ Searching (m .letters) (now (t .entry)) (m .states) (mask (m .initial)) (mask (m .finals)) (now (b .exit)) (now (out .exit)) (r .count) k (l + 1) (mask (r .pivots)) (mask (r .used)) × (s .count ≤ r .count) × (cell width (now (b .exit)) 1 k ≡ cell width (now (b .entry)) 1 k) ⌝ }
 {
-    let q = elimination::place(b, 64, m.states, s, y);
+    let q = elimination::place(b, WIDEST, m.states, s, y);
     let row = q.row;
     rows::store(out, l, k, row);
     q.size
 }
 
 // Row k by every letter, the products in a line.
-fn expand_letters(
-    t: &Table,
-    m: Machine,
-    b: &mut [u64; 192],
-    out: &mut Table,
-    s: Size,
-    k: usize,
-) -> Size
+fn expand_letters(t: &Table, m: Machine, b: &mut Basis, out: &mut Table, s: Size, k: usize) -> Size
     requires { ⌜ Valid (now t) m × Searching (m .letters) (now t) (m .states) (mask (m .initial)) (mask (m .finals)) (now b) (now out) (s .count) k 0 (mask (s .pivots)) (mask (s .used)) × (k < s .count) ⌝ }
     ensures { λ r. ⌜ Searching (m .letters) (now (t .entry)) (m .states) (mask (m .initial)) (mask (m .finals)) (now (b .exit)) (now (out .exit)) (r .count) (k + 1) 0 (mask (r .pivots)) (mask (r .used)) × (s .count ≤ r .count) ⌝ }
 {
     let a = m.letters;
-    let x = basis::get(b, 64, 1, k);
+    let x = basis::get(b, WIDEST, 1, k);
     let mut y = [0u64; 8];
     kernels::times_all(t, a, x, &mut y);
     let mut r = s;
@@ -61,13 +56,13 @@ fn expand_letters(
 }
 
 // Row k by every letter. Over one letter there is no line.
-pub fn expand(t: &Table, m: Machine, b: &mut [u64; 192], out: &mut Table, s: Size, k: usize) -> Size
+pub fn expand(t: &Table, m: Machine, b: &mut Basis, out: &mut Table, s: Size, k: usize) -> Size
     requires { ⌜ Valid (now t) m × Searching (m .letters) (now t) (m .states) (mask (m .initial)) (mask (m .finals)) (now b) (now out) (s .count) k 0 (mask (s .pivots)) (mask (s .used)) × (k < s .count) ⌝ }
     ensures { λ r. ⌜ Searching (m .letters) (now (t .entry)) (m .states) (mask (m .initial)) (mask (m .finals)) (now (b .exit)) (now (out .exit)) (r .count) (k + 1) 0 (mask (r .pivots)) (mask (r .used)) × (s .count ≤ r .count) ⌝ }
 {
     let a = m.letters;
     if a == 1 {
-        let x = basis::get(b, 64, 1, k);
+        let x = basis::get(b, WIDEST, 1, k);
         let y = rows::times(t, 0, x);
         return step(t, m, b, out, y, s, k, 0);
     }
@@ -75,7 +70,7 @@ pub fn expand(t: &Table, m: Machine, b: &mut [u64; 192], out: &mut Table, s: Siz
 }
 
 // Every row by every letter, first in, first out.
-pub fn search(t: &Table, m: Machine, b: &mut [u64; 192], out: &mut Table, s: Size) -> Size
+pub fn search(t: &Table, m: Machine, b: &mut Basis, out: &mut Table, s: Size) -> Size
     requires { ⌜ Valid (now t) m × Searching (m .letters) (now t) (m .states) (mask (m .initial)) (mask (m .finals)) (now b) (now out) (s .count) 0 0 (mask (s .pivots)) (mask (s .used)) ⌝ }
     ensures { λ r. ⌜ Searching (m .letters) (now (t .entry)) (m .states) (mask (m .initial)) (mask (m .finals)) (now (b .exit)) (now (out .exit)) (r .count) (r .count) 0 (mask (r .pivots)) (mask (r .used)) × (s .count ≤ r .count) × (s .count ≡ 0 → r .count ≡ 0) ⌝ }
 {
@@ -89,14 +84,14 @@ pub fn search(t: &Table, m: Machine, b: &mut [u64; 192], out: &mut Table, s: Siz
 }
 
 // Which of the first d rows of the basis b share an odd number of bits with f.
-pub fn column(b: &[u64; 192], n: usize, d: usize, f: Row) -> Row
+pub fn column(b: &Basis, n: usize, d: usize, f: Row) -> Row
     requires { ⌜ (d ≤ width) × ((k : ℕ) → k < d → cell width (now b) 1 k < 2 ^ n) ⌝ }
     ensures { λ r. ⌜ Column n (now (b .entry)) d (mask f) (mask r) × (mask r < 2 ^ d) ⌝ }
 {
     let mut y = rows::none();
     let mut i: usize = 0;
     while i < d {
-        let x = basis::get(b, 64, 1, i);
+        let x = basis::get(b, WIDEST, 1, i);
         let o = rows::parity(x, f);
         let u = rows::unit(i);
         let v = rows::when(o, u);
@@ -107,7 +102,7 @@ pub fn column(b: &[u64; 192], n: usize, d: usize, f: Row) -> Row
 }
 
 // The automaton of t and m on a basis of the rows that words lead to, in shortlex order. The basis is left in b, the rows in out.
-pub fn reduce(t: &Table, m: Machine, b: &mut [u64; 192], out: &mut Table) -> Machine
+pub fn reduce(t: &Table, m: Machine, b: &mut Basis, out: &mut Table) -> Machine
     requires { ⌜ Valid (now t) m × (length (now b) ≡ basisSize) × (length (now out) ≡ size) ⌝ }
     ensures { λ r. ⌜ (r .letters ≡ m .letters) × Reduces (m .letters) (now (t .entry)) (m .states) (mask (m .initial)) (mask (m .finals)) (now (b .exit)) (now (out .exit)) (r .states) (mask (r .initial)) (mask (r .finals)) ⌝ }
 {
@@ -117,7 +112,7 @@ pub fn reduce(t: &Table, m: Machine, b: &mut [u64; 192], out: &mut Table) -> Mac
     let none = rows::none();
     let q = elimination::place(
         b,
-        64,
+        WIDEST,
         n,
         Size {
             count: 0,
@@ -140,7 +135,7 @@ pub fn reduce(t: &Table, m: Machine, b: &mut [u64; 192], out: &mut Table) -> Mac
 
 // The minimal automaton, its rows in t: the reduction of the mirror, and then that of the mirror of the result. The basis b and the table c
 // are for work.
-pub fn minimise(t: &mut Table, m: Machine, b: &mut [u64; 192], c: &mut Table) -> Machine
+pub fn minimise(t: &mut Table, m: Machine, b: &mut Basis, c: &mut Table) -> Machine
     requires { ⌜ Valid (now t) m × (length (now b) ≡ basisSize) × (length (now c) ≡ size) ⌝ }
     ensures { λ r. ⌜ (r .letters ≡ m .letters) × Minimises (m .letters) (automatonIn (now (t .entry)) m) (now (t .exit)) (r .states) (mask (r .initial)) (mask (r .finals)) ⌝ }
 {

@@ -1,5 +1,6 @@
 -- `first_row`: the search over both side by side, and the side that accepts the row found.
-use mathlib.Core.Path.{refl, ap, _∙_}
+use mathlib.Core.Path.{ap, _∙_}
+use Prim.Native.Nat.{_<_}
 use native.Mathlib.Omega.{arith}
 use denote.Ref.{now}
 use Rattle.rows.specs.Row.{mask}
@@ -7,7 +8,6 @@ use Rattle.record.specs.Bytes.{number}
 use Rattle.record.specs.Record.{rowBytes, finalAt, statesOf}
 use Rattle.hunt.specs.Both.{besideOf}
 use Rattle.hunt.specs.Hunt.{shared}
-use Rattle.hunt.proofs.BothLaws.{paired-sizes}
 use Rattle.hunt.proofs.HuntLaws.{stopped-bound}
 use Rattle.comparison.proofs.JudgeLaws.{side-told, judged-same, judged-differs}
 use borrow.Author.Needs.{needs}
@@ -15,7 +15,7 @@ use Rattle.comparison.proofs.first_row.Statement.{statement}
 use Rattle.comparison.proofs.first_row.Tie as tie
 
 first-accepted-requires : tie.Need-first-accepted-requires
-first-accepted-requires c κs = let s = c .before .before .before .before in (s .pre .0, refl, s .pre .1, s .pre .2)
+first-accepted-requires c κs = let s = c .before .before .before .before .before in (s .pre .0, s .pre .4, s .pre .5, s .pre .1, s .pre .2)
 
 enum-known-found : tie.Need-enum-known-found
 enum-known-found c = search needs
@@ -23,34 +23,43 @@ enum-known-found c = search needs
 enum-told : tie.Need-enum-told
 enum-told c = search needs
 
+same-length : tie.Need-same-length
+same-length c = search needs
+
 returns : tie.Need-returns
 returns c =
-    let s = c .before .before .before .before .before .before .before in
+    let s = c .before .before .before .before .before .before .before .before .before .before in
     let a = s .args in
-    let f = c .before .before .first-accepted in
+    let f = c .before .before .before .before .first-accepted in
     let z = c .enum-told .given .0 .0 in
-    judged-same (now (a .first)) (now (a .second)) (a .m) (s .pre .0) (f .last .1 .1 .1 .0) (f .last .1 .1 .1 .1 .0) (z .count) (mask (z .pivots)) (mask (z .used)) (rw (c .enum-told .given .1) at (f .ensures))
+    judged-same (now (a .first)) (now (a .second)) (a .m) (s .pre .0) (a .stride) (f .last .1 .1 .1 .0) (f .last .1 .1 .1 .1 .1 .0) (z .count) (mask (z .pivots)) (mask (z .used)) (rw (c .enum-told .given .1) at (f .ensures))
+
+-- The row found is one of as many rows as there are states.
+found-below : (c : tie.After-found) → c .found .given .0 .0 < c .before .before .before .before .before .before .before .before .before .before .args .m .states
+found-below c =
+    let a = c .before .before .before .before .before .before .before .before .before .before .args in
+    let m = a .m in
+    let f = c .before .before .before .before .first-accepted in
+    stopped-bound (a .stride) (m .letters) (besideOf (now (a .first)) (now (a .second))) (m .states) (mask (m .initial)) (mask (m .finals)) (f .last .1 .1 .1 .0) (f .last .1 .1 .1 .1 .1 .0) (c .found .given .0 .0) (rw (c .found .given .1) at (f .ensures))
 
 get-requires : tie.Need-get-requires
 get-requires c κs =
-    let s = c .before .before .before .before .before .before .before .before .before in
-    let a = s .args in
-    let m = a .m in
-    let bs = now (a .first) in
-    let cs = now (a .second) in
-    let f = c .before .before .before .before .first-accepted in
-    (omega arith, stopped-bound (m .letters) (besideOf bs cs) (m .states) (mask (m .initial)) (mask (m .finals)) (f .last .1 .1 .1 .0) (f .last .1 .1 .1 .1 .0) (c .before .before .found .given .0 .0) (paired-sizes bs cs m (s .pre .0) .1) (rw (c .before .before .found .given .1) at (f .ensures)))
+    let s = c .before .before .before .before .before .before .before .before .before .before .before .before in
+    (search needs, omega arith, omega (arith, found-below (c .before .before), s .pre .4))
 
 parity-requires : tie.Need-parity-requires
 parity-requires c κs = search needs
 
+same-length-2 : tie.Need-same-length-2
+same-length-2 c = search needs
+
 returns-2 : tie.Need-returns-2
 returns-2 c =
-    let s = c .before .before .before .before .before .before .before .before .before .before .before in
+    let s = c .before .before .before .before .before .before .before .before .before .before .before .before .before .before in
     let a = s .args in
     let bs = now (a .first) in
-    let f = c .before .before .before .before .before .before .first-accepted in
-    judged-differs bs (now (a .second)) (a .m) (s .pre .0) (f .last .1 .1 .1 .0) (f .last .1 .1 .1 .1 .0) (c .before .before .before .before .found .given .0 .0) (c .parity .result)
+    let f = c .before .before .before .before .before .before .before .before .first-accepted in
+    judged-differs bs (now (a .second)) (a .m) (s .pre .0) (a .stride) (f .last .1 .1 .1 .0) (f .last .1 .1 .1 .1 .1 .0) (c .before .before .before .before .found .given .0 .0) (c .parity .result)
     (side-told bs (s .pre .0 .first) (mask (a .g)) (mask (c .before .get .result)) (c .parity .result) (s .pre .3) (c .parity .ensures) ∙ ap (shared (statesOf bs) (number rowBytes bs finalAt)) (c .before .get .ensures))
     (rw (c .before .before .before .before .found .given .1) at (f .ensures))
 
@@ -61,7 +70,9 @@ first-row-spec =
     first-accepted-requires
     enum-known-found
     enum-told
+    same-length
     returns
     get-requires
     parity-requires
+    same-length-2
     returns-2)

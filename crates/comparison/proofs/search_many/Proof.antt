@@ -1,0 +1,22 @@
+-- `search_many`: two records have no more states together than a row has bits.
+use native.Mathlib.Omega.{arith}
+use denote.Ref.{now}
+use Rattle.hunt.proofs.BothLaws.{paired-sizes}
+use borrow.Author.Needs.{needs}
+use Rattle.comparison.proofs.search_many.Statement.{statement}
+use Rattle.comparison.proofs.search_many.Tie as tie
+
+slice-aggregate-first-row : tie.Need-slice-aggregate-first-row
+slice-aggregate-first-row c = search needs
+
+first-row-requires : tie.Need-first-row-requires
+first-row-requires c κs =
+    let s = c .before .before .before .before in
+    let a = s .args in
+    (s .pre .0, s .pre .1, s .pre .2, s .pre .3, paired-sizes (now (a .first)) (now (a .second)) (a .m) (s .pre .0) .1, search needs)
+
+returns : tie.Need-returns
+returns c = search needs
+
+pub search-many-spec : {M : Type 1} → statement M
+search-many-spec = tie.close (tie.spec slice-aggregate-first-row first-row-requires returns)
