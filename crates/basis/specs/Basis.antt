@@ -1,4 +1,4 @@
--- The table of a search: `parts` blocks of rows. The stride σ says how far apart the blocks stand; a block has as many rows.
+-- The table of a search: `parts` blocks of σ rows each, end to end. σ is the stride.
 --   cell σ t l i        row i of block l, as a number: it stands at l * σ + i
 --   bits σ t l i        its bits
 --   written σ t l i v   the table with v as row i of block l
@@ -12,7 +12,7 @@ use Rattle.automata.specs.Mask.{bitOf}
 abbrev pub parts : ℕ
 parts = 3
 
--- How many numbers it holds where the stride is as many rows as a row has bits.
+-- How many numbers it holds where the stride is `width`.
 abbrev pub basisSize : ℕ
 basisSize = 192
 

@@ -33,8 +33,8 @@ fn fold(b: &mut [u64], stride: usize, l: usize, n: usize, q: usize, x: Row)
     }
 }
 
-// The same for the rows of the pivots p, of n bits. Where no row found has bit q, no basis row has it, and nothing is to be done. A block may
-// end before the span of the pivots does.
+// The same for the rows of the pivots p, of n bits. Where no row found has bit q, no basis row has it, and nothing is to be done. The span
+// of the pivots may be more than a block has rows.
 fn spread(b: &mut [u64], stride: usize, l: usize, n: usize, p: Row, v: Row, q: usize, x: Row)
     requires { ⌜ (l < parts) × (n ≤ stride) × (q < width) × Room stride (now b) × Unused stride n (mask p) (mask v) q (now b) ⌝ }
     ensures { λ r. ⌜ Folded stride (λ j. (j < n) × (bitOf (mask p) j ≡ true)) l q (mask x) (now (b .entry)) (now (b .exit)) ⌝ }

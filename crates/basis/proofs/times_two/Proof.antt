@@ -1,6 +1,6 @@
 -- `times_two`: for each of the two matrices, what the bits passed have given, xor what those to come will give, is the product.
 use mathlib.Core.Path.{_≡_}
-use Prim.Native.Nat.{ℕ, _+_, _-_, _*_, _^_, _≤_, _<_}
+use Prim.Native.Nat.{_+_, _-_, _*_, _^_, _≤_, _<_}
 use native.Mathlib.Omega.{arith}
 use borrow.Author.Needs.{needs}
 use lib.ListN.{length}
@@ -8,7 +8,7 @@ use lib.Count.{trailingZeros}
 use lib.Bits.{and-le-r}
 use Rattle.rows.specs.Row.{mask}
 use Rattle.rows.proofs.ProductLaws.{Left, left-start, left-step, left-end}
-use Rattle.basis.specs.Basis.{parts, cell}
+use Rattle.basis.specs.Basis.{cell}
 use Rattle.basis.proofs.BasisLaws.{block-inside, lowest-inside}
 use Rattle.basis.proofs.times_two.Statement.{statement}
 use Rattle.basis.proofs.times_two.Tie as tie
@@ -28,41 +28,37 @@ mul-h c = let a = c .args in record { fits = omega (arith, block-inside (a .stri
 loop-holds : tie.Need-loop-holds Inv-loop μ-loop
 loop-holds c = (search needs, omega arith, left-start _ _, left-start _ _)
 
--- The row of a block at the lowest bit to come has its place.
-place : (c : tie.In-loop Inv-loop μ-loop) (l : ℕ) → l < parts → l * c .before .before .args .stride + trailingZeros 64 (c .before .loop .s) < length (c .before .before .args .b .now)
+-- The rows of both blocks at the lowest bit to come have their places.
+places : (c : tie.In-loop Inv-loop μ-loop) → (c .before .before .args .l * c .before .before .args .stride + trailingZeros 64 (c .before .loop .s) < length (c .before .before .args .b .now)) × (c .before .before .args .g * c .before .before .args .stride + trailingZeros 64 (c .before .loop .s) < length (c .before .before .args .b .now))
 unfolding mask
-place c l h =
+places c =
     let s = c .before .before in
     let a = s .args in
-    let v = c .before .loop in
-    lowest-inside (a .stride) l (a .x .bits) 64 (v .s) (a .b .now) (s .pre .0) h (s .pre .3) (omega arith) (v .inv .1) (v .inv .0)
-
-place-y : (c : tie.In-loop Inv-loop μ-loop) → c .before .before .args .l * c .before .before .args .stride + trailingZeros 64 (c .before .loop .s) < length (c .before .before .args .b .now)
-place-y c = place c (c .before .before .args .l) (c .before .before .pre .1)
-
-place-w : (c : tie.In-loop Inv-loop μ-loop) → c .before .before .args .g * c .before .before .args .stride + trailingZeros 64 (c .before .loop .s) < length (c .before .before .args .b .now)
-place-w c = place c (c .before .before .args .g) (c .before .before .pre .2)
+    let v = c .before .loop in (
+      lowest-inside (a .stride) (a .l) (a .x .bits) 64 (v .s) (a .b .now) (s .pre .0) (s .pre .1) (s .pre .3) (omega arith) (v .inv .1) (v .inv .0),
+      lowest-inside (a .stride) (a .g) (a .x .bits) 64 (v .s) (a .b .now) (s .pre .0) (s .pre .2) (s .pre .3) (omega arith) (v .inv .1) (v .inv .0),
+    )
 
 cast-q : tie.Need-cast-q Inv-loop μ-loop
-cast-q c = record { fits = omega (arith, place-y c) }
+cast-q c = record { fits = omega (arith, places c) }
 
 add-y : tie.Need-add-y Inv-loop μ-loop
-add-y c = record { fits = omega (arith, place-y c) }
+add-y c = record { fits = omega (arith, places c) }
 
 mul-y : tie.Need-mul-y Inv-loop μ-loop
-mul-y c = record { fits = omega (arith, place-y c) }
+mul-y c = record { fits = omega (arith, places c) }
 
 shared-slice-read-y : tie.Need-shared-slice-read-y Inv-loop μ-loop
-shared-slice-read-y c = place-y (c .before)
+shared-slice-read-y c = omega (arith, places (c .before))
 
 add-w : tie.Need-add-w Inv-loop μ-loop
-add-w c = record { fits = omega (arith, place-w (c .before)) }
+add-w c = record { fits = omega (arith, places (c .before)) }
 
 mul-w : tie.Need-mul-w Inv-loop μ-loop
-mul-w c = record { fits = omega (arith, place-w (c .before)) }
+mul-w c = record { fits = omega (arith, places (c .before)) }
 
 shared-slice-read-w : tie.Need-shared-slice-read-w Inv-loop μ-loop
-shared-slice-read-w c = place-w (c .before .before)
+shared-slice-read-w c = omega (arith, places (c .before .before))
 
 sub-s : tie.Need-sub-s Inv-loop μ-loop
 sub-s c = omega arith
