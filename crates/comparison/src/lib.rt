@@ -43,8 +43,11 @@ pub enum Verdict {
     Differs { row: usize, first: bool },
 }
 
-// How many states of both records together are few: the stride of a basis for them.
+// How many states of both records together are few, or some more: the strides of the bases for them. What is to be cleared is then in
+// proportion to the work.
 const FEW: usize = 8;
+
+const SOME: usize = 16;
 
 // Two records of at most two states together: a word of at most one letter tells their languages apart, if any does.
 fn first_letter(first: &[u8], second: &[u8], m: Machine, g: Row, w: &mut Trail) -> Verdict
@@ -121,13 +124,22 @@ fn first_row(
     }
 }
 
-// The same in a basis for few states: what is to be cleared is then no more than a machine of few states is worth.
+// The same in a basis for few states.
 fn search_few(first: &[u8], second: &[u8], m: Machine, g: Row, w: &mut Trail) -> Verdict
     requires { ⌜ Paired (now first) (now second) m × (length (now w) ≡ trailSize) × (shared (m .states) (mask (m .initial)) (mask (m .finals)) ≡ false) × (mask g ≡ number rowBytes (now first) finalAt) × (m .states ≤ 8) ⌝ }
     ensures { λ r. ⌜ Judged (lettersOf (now (first .entry))) (automatonOf (now (first .entry))) (automatonOf (now (second .entry))) (now (w .exit)) r ⌝ }
 {
     let mut b = [0u64; 24];
     first_row(first, second, m, g, &mut b, FEW, w)
+}
+
+// The same in a basis for some more.
+fn search_some(first: &[u8], second: &[u8], m: Machine, g: Row, w: &mut Trail) -> Verdict
+    requires { ⌜ Paired (now first) (now second) m × (length (now w) ≡ trailSize) × (shared (m .states) (mask (m .initial)) (mask (m .finals)) ≡ false) × (mask g ≡ number rowBytes (now first) finalAt) × (m .states ≤ 16) ⌝ }
+    ensures { λ r. ⌜ Judged (lettersOf (now (first .entry))) (automatonOf (now (first .entry))) (automatonOf (now (second .entry))) (now (w .exit)) r ⌝ }
+{
+    let mut b = [0u64; 48];
+    first_row(first, second, m, g, &mut b, SOME, w)
 }
 
 // The same in a basis for as many states as two records can have.
@@ -147,11 +159,16 @@ fn first_longer(first: &[u8], second: &[u8], m: Machine, g: Row, w: &mut Trail) 
     if m.states <= 2 {
         return first_letter(first, second, m, g, w);
     }
-    if FEW < m.states {
+    if SOME < m.states {
         return search_many(first, second, m, g, w);
     }
+    if FEW < m.states {
+        return search_some(first, second, m, g, w);
+    }
     if m.letters == 1 {
-        return first_power(first, second, m, g, w);
+        if m.states <= 4 {
+            return first_power(first, second, m, g, w);
+        }
     }
     search_few(first, second, m, g, w)
 }

@@ -1,5 +1,5 @@
 -- The search for the first accepted row, pair by pair.
-use mathlib.Core.Path.{_≡_, ap, subst, _∙_}
+use mathlib.Core.Path.{_≡_, refl, sym, ap, subst, _∙_}
 use mathlib.Core.Bool.{Bool, true, false, cond}
 use mathlib.Core.List.{List}
 use mathlib.Core.Logic.{inl, inr}
@@ -10,12 +10,13 @@ use native.Mathlib.Omega.{arith}
 use lib.ListN.{length}
 use lib.Dec.{eqb}
 use Rattle.automata.specs.Mask.{bitOf}
-use Rattle.automata.proofs.Xor.{eqb-same}
+use Rattle.automata.proofs.Xor.{xor-none, eqb-same}
 use Rattle.automata.proofs.Below.{up-to}
 use Rattle.rows.specs.Row.{width}
 use Rattle.rows.specs.Product.{product}
 use Rattle.rows.specs.Machine.{autoBy}
 use Rattle.basis.specs.Basis.{cell, bits, Room}
+use Rattle.rows.proofs.BitLaws.{bit-none}
 use Rattle.trail.specs.Trail.{trailSize, fromIn, byIn, linked}
 use Rattle.trail.proofs.LinkLaws.{linked-length, linked-from, linked-by, linked-from-new, linked-by-new}
 use Rattle.elimination.specs.Place.{BasisIn, Old, New, Placed}
@@ -67,6 +68,24 @@ module _ (σ a : ℕ) (M : ℕ → ℕ → ℕ) (n i f : ℕ) (C C′ : ℕ → 
     trail = g;
     none = λ r g. ap (λ x. shared n x f) (first-row P r g .1) ∙ e;
   }
+
+-- ---- a product of no bits
+
+-- It is an xor of no rows.
+pub none-placed : (σ n d p v y : ℕ) (b : List ℕ) → y ≡ 0 → (C : ℕ → ℕ → Bool) → BasisIn σ n d p C b → (C′ : ℕ → ℕ → Bool) × (c : ℕ → Bool) × Placed σ n d p v y C C′ c b b d p v
+none-placed σ n d p v y b e C F = (
+  C,
+  λ i. false,
+  inl (record {
+    count = refl;
+    pivots = refl;
+    used = refl;
+    table = refl;
+    coef = refl;
+    sum = λ k. ap (λ x. bitOf x k) e ∙ bit-none k ∙ sym (xor-none d (λ i h. refl));
+    short = λ i h. refl;
+  }),
+)
 
 -- ---- one pair
 

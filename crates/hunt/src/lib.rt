@@ -33,6 +33,10 @@ pub fn try_pair(
     requires { ⌜ Paired (now first) (now second) m × Hunting stride (m .letters) (besideOf (now first) (now second)) (m .states) (mask (m .initial)) (mask (m .finals)) (now b) (now w) (s .count) k l (mask (s .pivots)) (mask (s .used)) × (k < s .count) × (l < m .letters) × (mask y ≡ product (m .states) (cell stride (now b) 1 k) (besideOf (now first) (now second) l)) ⌝ }
     ensures { λ r. ⌜ Hunted stride (m .letters) (besideOf (now (first .entry)) (now (second .entry))) (m .states) (mask (m .initial)) (mask (m .finals)) (now (b .exit)) (now (w .exit)) (s .count) k (l + 1) r × (cell stride (now (b .exit)) 1 k ≡ cell stride (now (b .entry)) 1 k) × ((i : ℕ) → i < stride → cell stride (now (b .exit)) 2 i ≡ cell stride (now (b .entry)) 2 i) × Grown stride (s .count) (mask y) (now (b .exit)) r ⌝ }
 {
+    // Most products of a sparse machine have no bits, and are an xor of no rows.
+    if rows::is_none(y) {
+        return Hunt::Going(s);
+    }
     let d = s.count;
     let f = m.finals;
     let next = elimination::insert(b, stride, m.states, s, y);

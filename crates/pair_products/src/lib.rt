@@ -59,33 +59,7 @@ fn times_lines(first: &[u8], second: &[u8], x: Row, s: &mut Line)
     }
 }
 
-// The same, each letter by itself.
-fn times_each(first: &[u8], second: &[u8], x: Row, s: &mut Line)
-    requires { ⌜ WellFormed (now first) × WellFormed (now second) × (lettersOf (now second) ≡ lettersOf (now first)) × (mask x < 2 ^ (statesOf (now first) + statesOf (now second))) × (length (now s) ≡ blocks) ⌝ }
-    ensures { λ _. ⌜ Both (now (first .entry)) (now (second .entry)) (mask x) (now (s .exit)) ⌝ }
-{
-    let a = record::size(first[6]);
-    let mut l = 0;
-    while l < a {
-        kernels::put(s, l, times_pair(first, second, l, x));
-        l += 1;
-    }
-}
-
-// Whether x has at most two bits, as a row of two deterministic machines side by side has. It decides how products are made and not what
-// they are, so that it promises nothing.
-fn is_sparse(x: Row) -> bool {
-    if rows::is_none(x) {
-        return true;
-    }
-    let y = rows::clear_lowest(x);
-    if rows::is_none(y) {
-        return true;
-    }
-    rows::is_none(rows::clear_lowest(y))
-}
-
-// The same: over two letters there are no lines to merge, and a row of few bits does not need them.
+// The same: over two letters there are no lines to merge.
 pub fn times_both(first: &[u8], second: &[u8], x: Row, s: &mut Line)
     requires { ⌜ WellFormed (now first) × WellFormed (now second) × (lettersOf (now second) ≡ lettersOf (now first)) × (mask x < 2 ^ (statesOf (now first) + statesOf (now second))) × (length (now s) ≡ blocks) ⌝ }
     ensures { λ _. ⌜ Both (now (first .entry)) (now (second .entry)) (mask x) (now (s .exit)) ⌝ }
@@ -93,10 +67,6 @@ pub fn times_both(first: &[u8], second: &[u8], x: Row, s: &mut Line)
     let a = record::size(first[6]);
     if a == 2 {
         times_two_both(first, second, x, s);
-        return;
-    }
-    if is_sparse(x) {
-        times_each(first, second, x, s);
         return;
     }
     times_lines(first, second, x, s);

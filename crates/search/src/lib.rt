@@ -4,17 +4,18 @@ ghost use mathlib.Core.Bool.{false};
 ghost use Prim.Native.Nat.{_+_, _≤_, _<_};
 ghost use lib.ListN.{length};
 ghost use Rattle.rows.specs.Row.{mask};
-ghost use Rattle.basis.specs.Basis.{Room};
+ghost use Rattle.basis.specs.Basis.{cell, Room};
 ghost use Rattle.trail.specs.Trail.{trailSize};
 ghost use Rattle.hunt.specs.Both.{besideOf, Paired};
 ghost use Rattle.hunt.specs.Hunt.{shared, Hunting, Hunted, Ended};
 use elimination::Size;
 use hunt::Hunt;
 use rows::Machine;
+use rows::Row;
 use trail::Trail;
 
-// Row k by every letter, the products in a line.
-fn try_row(
+// Row k, which is x, by every letter, the products in a line.
+fn try_line(
     first: &[u8],
     second: &[u8],
     m: Machine,
@@ -23,12 +24,12 @@ fn try_row(
     w: &mut Trail,
     s: Size,
     k: usize,
+    x: Row,
 ) -> Hunt
-    requires { ⌜ Paired (now first) (now second) m × Hunting stride (m .letters) (besideOf (now first) (now second)) (m .states) (mask (m .initial)) (mask (m .finals)) (now b) (now w) (s .count) k 0 (mask (s .pivots)) (mask (s .used)) × (k < s .count) ⌝ }
+    requires { ⌜ Paired (now first) (now second) m × Hunting stride (m .letters) (besideOf (now first) (now second)) (m .states) (mask (m .initial)) (mask (m .finals)) (now b) (now w) (s .count) k 0 (mask (s .pivots)) (mask (s .used)) × (k < s .count) × (mask x ≡ cell stride (now b) 1 k) ⌝ }
     ensures { λ r. ⌜ Hunted stride (m .letters) (besideOf (now (first .entry)) (now (second .entry))) (m .states) (mask (m .initial)) (mask (m .finals)) (now (b .exit)) (now (w .exit)) (s .count) (k + 1) 0 r ⌝ }
 {
     let a = m.letters;
-    let x = basis::get(b, stride, 1, k);
     let mut y = [0u64; 8];
     pair_products::times_both(first, second, x, &mut y);
     let mut r = s;
@@ -43,6 +44,78 @@ fn try_row(
         l += 1;
     }
     Hunt::Going(r)
+}
+
+// The same, each product made when its letter is tried: a letter that ends the search spares those after it.
+fn try_each(
+    first: &[u8],
+    second: &[u8],
+    m: Machine,
+    b: &mut [u64],
+    stride: usize,
+    w: &mut Trail,
+    s: Size,
+    k: usize,
+    x: Row,
+) -> Hunt
+    requires { ⌜ Paired (now first) (now second) m × Hunting stride (m .letters) (besideOf (now first) (now second)) (m .states) (mask (m .initial)) (mask (m .finals)) (now b) (now w) (s .count) k 0 (mask (s .pivots)) (mask (s .used)) × (k < s .count) × (mask x ≡ cell stride (now b) 1 k) ⌝ }
+    ensures { λ r. ⌜ Hunted stride (m .letters) (besideOf (now (first .entry)) (now (second .entry))) (m .states) (mask (m .initial)) (mask (m .finals)) (now (b .exit)) (now (w .exit)) (s .count) (k + 1) 0 r ⌝ }
+{
+    let a = m.letters;
+    let mut r = s;
+    let mut l: usize = 0;
+    while l < a {
+        let y = pair_products::times_pair(first, second, l, x);
+        let h = hunt::try_pair(first, second, m, b, stride, w, y, r, k, l);
+        let Hunt::Going(next) = h else {
+            return h;
+        };
+        r = next;
+        l += 1;
+    }
+    Hunt::Going(r)
+}
+
+// Whether x has at most two bits, as a row of two deterministic machines side by side has.
+fn is_sparse(x: Row) -> bool {
+    if rows::is_none(x) {
+        return true;
+    }
+    let y = rows::clear_lowest(x);
+    if rows::is_none(y) {
+        return true;
+    }
+    rows::is_none(rows::clear_lowest(y))
+}
+
+// Whether the products of a row x over a letters are made one by one: two letters go in one pass, and from four on a line is worth its
+// making, unless the row has few bits. It decides how products are made and not what they are, so that it promises nothing.
+fn one_by_one(a: usize, x: Row) -> bool {
+    if a < 4 {
+        return a == 3;
+    }
+    is_sparse(x)
+}
+
+// Row k by every letter.
+fn try_row(
+    first: &[u8],
+    second: &[u8],
+    m: Machine,
+    b: &mut [u64],
+    stride: usize,
+    w: &mut Trail,
+    s: Size,
+    k: usize,
+) -> Hunt
+    requires { ⌜ Paired (now first) (now second) m × Hunting stride (m .letters) (besideOf (now first) (now second)) (m .states) (mask (m .initial)) (mask (m .finals)) (now b) (now w) (s .count) k 0 (mask (s .pivots)) (mask (s .used)) × (k < s .count) ⌝ }
+    ensures { λ r. ⌜ Hunted stride (m .letters) (besideOf (now (first .entry)) (now (second .entry))) (m .states) (mask (m .initial)) (mask (m .finals)) (now (b .exit)) (now (w .exit)) (s .count) (k + 1) 0 r ⌝ }
+{
+    let x = basis::get(b, stride, 1, k);
+    if one_by_one(m.letters, x) {
+        return try_each(first, second, m, b, stride, w, s, k, x);
+    }
+    try_line(first, second, m, b, stride, w, s, k, x)
 }
 
 // Every row by every letter, until a row is accepted.

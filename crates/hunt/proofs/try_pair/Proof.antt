@@ -1,7 +1,8 @@
--- `try_pair`: an old row changes nothing; a new one is accepted, and ends the search, or is not.
-use mathlib.Core.Path.{_≡_, sym, subst, _∙_}
+-- `try_pair`: no bits, or an old row, change nothing; a new row is accepted, and ends the search, or is not.
+use mathlib.Core.Path.{_≡_, refl, sym, subst, _∙_}
 use Prim.Native.Nat.{_^_, _<_}
 use native.Mathlib.Omega.{arith}
+use borrow.Author.Tests.{eqb-true}
 use denote.Ref.{now}
 use Rattle.rows.specs.Row.{mask}
 use Rattle.basis.specs.Basis.{cell}
@@ -9,7 +10,7 @@ use Rattle.rows.proofs.ProductLaws.{product-lt}
 use Rattle.hunt.specs.Both.{besideOf}
 use Rattle.hunt.specs.Hunt.{shared}
 use Rattle.hunt.proofs.BothLaws.{paired-sizes, paired-rows}
-use Rattle.hunt.proofs.HuntLaws.{row-kept, hunting-old, new-below, grown-new, hunting-new, stopped-new}
+use Rattle.hunt.proofs.HuntLaws.{none-placed, row-kept, hunting-old, new-below, grown-new, hunting-new, stopped-new}
 use borrow.Author.Needs.{needs}
 use Rattle.hunt.proofs.try_pair.Statement.{statement}
 use Rattle.hunt.proofs.try_pair.Tie as tie
@@ -23,9 +24,28 @@ short s =
     let cs = now (a .second) in
     subst (λ y. y < 2 ^ n) (sym (s .pre .4)) (product-lt n n (cell (a .stride) (a .b .now) 1 (a .k)) (besideOf bs cs (a .l)) (λ i h. paired-rows bs cs (a .m) (s .pre .0) (a .l) i (s .pre .3) h))
 
+is-none-requires : tie.Need-is-none-requires
+is-none-requires c κs = search needs
+
+-- The product has no bits.
+returns : tie.Need-returns
+returns c =
+    let s = c .before .before .before .before .before in
+    let a = s .args in
+    let m = a .m in
+    let bs = now (a .first) in
+    let cs = now (a .second) in
+    let hn = paired-sizes bs cs m (s .pre .0) .1 in
+    let z = eqb-true (mask (a .y)) 0 (sym (c .before .is-none .ensures) ∙ c .if1 .taken) in (
+      hunting-old (a .stride) (m .letters) (besideOf bs cs) (m .states) (mask (m .initial)) (mask (m .finals)) hn (a .b .now) (a .w .now) (a .s .count) (a .k) (a .l) (mask (a .s .pivots)) (mask (a .s .used)) (s .pre .1) (s .pre .2) (s .pre .3) (mask (a .y)) (s .pre .4) (a .b .now) (a .s .count) (mask (a .s .pivots)) (mask (a .s .used)) (none-placed (a .stride) (m .states) (a .s .count) (mask (a .s .pivots)) (mask (a .s .used)) (mask (a .y)) (a .b .now) z) (omega arith),
+      refl,
+      λ i h. refl,
+      λ h. absurd (omega arith),
+    )
+
 insert-requires : tie.Need-insert-requires
 insert-requires c κs =
-    let s = c .before .before .before .before .before in
+    let s = c .before .before .before .before .before .before .before in
     let a = s .args in
     let H = s .pre .1 in
     (paired-sizes (now (a .first)) (now (a .second)) (a .m) (s .pre .0) .1, H .fits, H .base, short s, (H .coef, H .search .basis), H .cover)
@@ -33,9 +53,9 @@ insert-requires c κs =
 same-length : tie.Need-same-length
 same-length c = search needs
 
-returns : tie.Need-returns
-returns c =
-    let s = c .before .before .before .before .before .before .before .before .before .before in
+returns-2 : tie.Need-returns-2
+returns-2 c =
+    let s = c .before .before .before .before .before .before .before .before .before .before .before .before in
     let a = s .args in
     let m = a .m in
     let bs = now (a .first) in
@@ -51,7 +71,7 @@ returns c =
 
 link-requires : tie.Need-link-requires
 link-requires c κs =
-    let s = c .before .before .before .before .before .before .before .before .before .before .before in
+    let s = c .before .before .before .before .before .before .before .before .before .before .before .before .before in
     let a = s .args in
     let m = a .m in
     let bs = now (a .first) in
@@ -59,22 +79,22 @@ link-requires c κs =
     let z = paired-sizes bs cs m (s .pre .0) in
     let q = c .before .before .before .before .before .insert in
     let r = q .result in
-    let d = new-below (a .stride) (m .letters) (besideOf bs cs) (m .states) (mask (m .initial)) (mask (m .finals)) (z .1) (a .b .now) (a .w .now) (a .s .count) (a .k) (a .l) (mask (a .s .pivots)) (mask (a .s .used)) (s .pre .1) (s .pre .2) (s .pre .3) (mask (a .y)) (s .pre .4) (q .last .0) (r .count) (mask (r .pivots)) (mask (r .used)) (q .ensures .0) (omega (arith, c .before .if1 .left)) in
+    let d = new-below (a .stride) (m .letters) (besideOf bs cs) (m .states) (mask (m .initial)) (mask (m .finals)) (z .1) (a .b .now) (a .w .now) (a .s .count) (a .k) (a .l) (mask (a .s .pivots)) (mask (a .s .used)) (s .pre .1) (s .pre .2) (s .pre .3) (mask (a .y)) (s .pre .4) (q .last .0) (r .count) (mask (r .pivots)) (mask (r .used)) (q .ensures .0) (omega (arith, c .before .if2 .left)) in
     (d, omega (arith, s .pre .2), omega (arith, z .2, s .pre .3))
 
 parity-requires : tie.Need-parity-requires
 parity-requires c κs = search needs
 
 -- The parity says whether the new row is accepted.
-told : (c : tie.After-parity) → c .parity .result ≡ shared (c .before .before .before .before .before .before .before .before .before .before .before .before .before .args .m .states) (mask (c .before .before .before .before .before .before .before .before .before .before .before .before .before .args .y)) (mask (c .before .before .before .before .before .before .before .before .before .before .before .before .before .args .m .finals))
-told c = c .parity .ensures (c .before .before .before .before .before .before .before .before .before .before .before .before .before .args .m .states) (short (c .before .before .before .before .before .before .before .before .before .before .before .before .before))
+told : (c : tie.After-parity) → c .parity .result ≡ shared (c .before .before .before .before .before .before .before .before .before .before .before .before .before .before .before .args .m .states) (mask (c .before .before .before .before .before .before .before .before .before .before .before .before .before .before .before .args .y)) (mask (c .before .before .before .before .before .before .before .before .before .before .before .before .before .before .before .args .m .finals))
+told c = c .parity .ensures (c .before .before .before .before .before .before .before .before .before .before .before .before .before .before .before .args .m .states) (short (c .before .before .before .before .before .before .before .before .before .before .before .before .before .before .before))
 
 same-length-2 : tie.Need-same-length-2
 same-length-2 c = search needs
 
-returns-2 : tie.Need-returns-2
-returns-2 c =
-    let s = c .before .before .before .before .before .before .before .before .before .before .before .before .before .before in
+returns-3 : tie.Need-returns-3
+returns-3 c =
+    let s = c .before .before .before .before .before .before .before .before .before .before .before .before .before .before .before .before in
     let a = s .args in
     let m = a .m in
     let bs = now (a .first) in
@@ -82,7 +102,7 @@ returns-2 c =
     let hn = paired-sizes bs cs m (s .pre .0) .1 in
     let q = c .before .before .before .before .before .before .before .before .insert in
     let r = q .result in (
-      rw (c .before .before .link .ensures) (stopped-new (a .stride) (m .letters) (besideOf bs cs) (m .states) (mask (m .initial)) (mask (m .finals)) hn (a .b .now) (a .w .now) (a .s .count) (a .k) (a .l) (mask (a .s .pivots)) (mask (a .s .used)) (s .pre .1) (s .pre .2) (s .pre .3) (mask (a .y)) (s .pre .4) (q .last .0) (r .count) (mask (r .pivots)) (mask (r .used)) (q .ensures .0) (omega (arith, c .before .before .before .before .if1 .left)) (sym (told (c .before)) ∙ c .if2 .taken)),
+      rw (c .before .before .link .ensures) (stopped-new (a .stride) (m .letters) (besideOf bs cs) (m .states) (mask (m .initial)) (mask (m .finals)) hn (a .b .now) (a .w .now) (a .s .count) (a .k) (a .l) (mask (a .s .pivots)) (mask (a .s .used)) (s .pre .1) (s .pre .2) (s .pre .3) (mask (a .y)) (s .pre .4) (q .last .0) (r .count) (mask (r .pivots)) (mask (r .used)) (q .ensures .0) (omega (arith, c .before .before .before .before .if2 .left)) (sym (told (c .before)) ∙ c .if3 .taken)),
       row-kept (a .stride) (m .letters) (besideOf bs cs) (m .states) (mask (m .initial)) (mask (m .finals)) hn (a .b .now) (a .w .now) (a .s .count) (a .k) (a .l) (mask (a .s .pivots)) (mask (a .s .used)) (s .pre .1) (s .pre .2) (s .pre .3) (mask (a .y)) (s .pre .4) (q .last .0) (r .count) (mask (r .pivots)) (mask (r .used)) (q .ensures .0) (a .k) (s .pre .2),
       λ i h. q .ensures .1 2 i (omega arith) h,
       tt,
@@ -91,9 +111,9 @@ returns-2 c =
 same-length-3 : tie.Need-same-length-3
 same-length-3 c = search needs
 
-returns-3 : tie.Need-returns-3
-returns-3 c =
-    let s = c .before .before .before .before .before .before .before .before .before .before .before .before .before .before in
+returns-4 : tie.Need-returns-4
+returns-4 c =
+    let s = c .before .before .before .before .before .before .before .before .before .before .before .before .before .before .before .before in
     let a = s .args in
     let m = a .m in
     let bs = now (a .first) in
@@ -101,12 +121,12 @@ returns-3 c =
     let hn = paired-sizes bs cs m (s .pre .0) .1 in
     let q = c .before .before .before .before .before .before .before .before .insert in
     let r = q .result in (
-      rw (c .before .before .link .ensures) (hunting-new (a .stride) (m .letters) (besideOf bs cs) (m .states) (mask (m .initial)) (mask (m .finals)) hn (a .b .now) (a .w .now) (a .s .count) (a .k) (a .l) (mask (a .s .pivots)) (mask (a .s .used)) (s .pre .1) (s .pre .2) (s .pre .3) (mask (a .y)) (s .pre .4) (q .last .0) (r .count) (mask (r .pivots)) (mask (r .used)) (q .ensures .0) (omega (arith, c .before .before .before .before .if1 .left)) (sym (told (c .before)) ∙ c .if2 .left)),
+      rw (c .before .before .link .ensures) (hunting-new (a .stride) (m .letters) (besideOf bs cs) (m .states) (mask (m .initial)) (mask (m .finals)) hn (a .b .now) (a .w .now) (a .s .count) (a .k) (a .l) (mask (a .s .pivots)) (mask (a .s .used)) (s .pre .1) (s .pre .2) (s .pre .3) (mask (a .y)) (s .pre .4) (q .last .0) (r .count) (mask (r .pivots)) (mask (r .used)) (q .ensures .0) (omega (arith, c .before .before .before .before .if2 .left)) (sym (told (c .before)) ∙ c .if3 .left)),
       row-kept (a .stride) (m .letters) (besideOf bs cs) (m .states) (mask (m .initial)) (mask (m .finals)) hn (a .b .now) (a .w .now) (a .s .count) (a .k) (a .l) (mask (a .s .pivots)) (mask (a .s .used)) (s .pre .1) (s .pre .2) (s .pre .3) (mask (a .y)) (s .pre .4) (q .last .0) (r .count) (mask (r .pivots)) (mask (r .used)) (q .ensures .0) (a .k) (s .pre .2),
       λ i h. q .ensures .1 2 i (omega arith) h,
-      grown-new (a .stride) (m .letters) (besideOf bs cs) (m .states) (mask (m .initial)) (mask (m .finals)) hn (a .b .now) (a .w .now) (a .s .count) (a .k) (a .l) (mask (a .s .pivots)) (mask (a .s .used)) (s .pre .1) (s .pre .2) (s .pre .3) (mask (a .y)) (s .pre .4) (q .last .0) (r .count) (mask (r .pivots)) (mask (r .used)) (q .ensures .0) (omega (arith, c .before .before .before .before .if1 .left)),
+      grown-new (a .stride) (m .letters) (besideOf bs cs) (m .states) (mask (m .initial)) (mask (m .finals)) hn (a .b .now) (a .w .now) (a .s .count) (a .k) (a .l) (mask (a .s .pivots)) (mask (a .s .used)) (s .pre .1) (s .pre .2) (s .pre .3) (mask (a .y)) (s .pre .4) (q .last .0) (r .count) (mask (r .pivots)) (mask (r .used)) (q .ensures .0) (omega (arith, c .before .before .before .before .if2 .left)),
     )
 
 pub try-pair-spec : {M : Type 1} → statement M
 try-pair-spec =
-    tie.close (tie.spec insert-requires same-length returns link-requires parity-requires same-length-2 returns-2 same-length-3 returns-3)
+    tie.close (tie.spec is-none-requires returns insert-requires same-length returns-2 link-requires parity-requires same-length-2 returns-3 same-length-3 returns-4)

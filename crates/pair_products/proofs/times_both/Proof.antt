@@ -1,4 +1,4 @@
--- `times_both`: two letters by themselves, each letter by itself, or every letter by lines.
+-- `times_both`: two letters by themselves, or every letter by lines.
 use mathlib.Core.Path.{sym, _∙_}
 use native.Mathlib.Omega.{arith}
 use Rattle.record.proofs.Refusals.{good-check}
@@ -20,21 +20,12 @@ times-two-both-requires c κs =
 returns : tie.Need-returns
 returns c = c .times-two-both .ensures
 
-is-sparse-requires : tie.Need-is-sparse-requires
-is-sparse-requires c κs = tt
-
-times-each-requires : tie.Need-times-each-requires
-times-each-requires c κs = search needs
-
-returns-2 : tie.Need-returns-2
-returns-2 c = c .times-each .ensures
-
 times-lines-requires : tie.Need-times-lines-requires
 times-lines-requires c κs = search needs
 
-returns-3 : tie.Need-returns-3
-returns-3 c = c .times-lines .ensures
+returns-2 : tie.Need-returns-2
+returns-2 c = c .times-lines .ensures
 
 pub times-both-spec : {M : Type 1} → statement M
 times-both-spec =
-    tie.close (tie.spec shared-slice-read-size size-requires times-two-both-requires returns is-sparse-requires times-each-requires returns-2 times-lines-requires returns-3)
+    tie.close (tie.spec shared-slice-read-size size-requires times-two-both-requires returns times-lines-requires returns-2)

@@ -4,8 +4,8 @@ use mathlib.Core.Bool.{not}
 use Rattle.rows.specs.Row.{mask}
 use Rattle.products.proofs.LoopLaws.{some-bit}
 use borrow.Author.Needs.{needs}
-use Rattle.pair_products.proofs.is_sparse.Statement.{statement}
-use Rattle.pair_products.proofs.is_sparse.Tie as tie
+use Rattle.search.proofs.is_sparse.Statement.{statement}
+use Rattle.search.proofs.is_sparse.Tie as tie
 
 is-none-requires : tie.Need-is-none-requires
 is-none-requires c κs = search needs

@@ -1,0 +1,20 @@
+-- The letters of one row, tried in turn: what holds before letter l.
+use mathlib.Core.Path.{_≡_, sym, subst}
+use mathlib.Core.List.{List}
+use Prim.Native.Nat.{ℕ, _^_, _<_, _≤_}
+use lib.ListN.{length}
+use Rattle.rows.specs.declared.Machine.{Machine}
+use Rattle.rows.specs.Row.{mask}
+use Rattle.basis.specs.Basis.{cell}
+use Rattle.elimination.specs.declared.Size.{Size}
+use Rattle.reduction.proofs.TableSearch.{found-low}
+use Rattle.hunt.specs.Both.{besideOf}
+use Rattle.hunt.specs.Hunt.{Hunting}
+
+-- The letters below l are done, from d rows on, and no row found is accepted; row k is as in b₀, and the basis as long.
+abbrev pub Trying : List ℕ → List ℕ → Machine → ℕ → List ℕ → List ℕ → List ℕ → ℕ → ℕ → ℕ → Size → Type 0
+Trying bs cs m σ b₀ b w k d l r = (l ≤ m .letters) × Hunting σ (m .letters) (besideOf bs cs) (m .states) (mask (m .initial)) (mask (m .finals)) b w (r .count) k l (mask (r .pivots)) (mask (r .used)) × (d ≤ r .count) × (cell σ b 1 k ≡ cell σ b₀ 1 k) × (length b ≡ length b₀)
+
+-- A row found has no bit above the states.
+pub found-below : (σ a : ℕ) (M : ℕ → ℕ → ℕ) (n i f : ℕ) (b w : List ℕ) (d k l p v x : ℕ) → Hunting σ a M n i f b w d k l p v → k < d → x ≡ cell σ b 1 k → x < 2 ^ n
+found-below σ a M n i f b w d k l p v x H h e = subst (λ y. y < 2 ^ n) (sym e) (found-low σ n d p (H .coef) b (H .search .basis) k h)
