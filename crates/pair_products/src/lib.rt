@@ -9,6 +9,7 @@ ghost use Rattle.rows.specs.Beside.{beside};
 ghost use Rattle.record.specs.Record.{statesOf, lettersOf, rowAt, WellFormed};
 ghost use Rattle.products.specs.Lines.{Both};
 use kernels::Line;
+use kernels::Two;
 use rows::Row;
 
 // The row x times the matrix of letter l of two records side by side.
@@ -24,22 +25,24 @@ pub fn times_pair(first: &[u8], second: &[u8], l: usize, x: Row) -> Row
     rows::xor(y, rows::moved(z, n))
 }
 
-// The row x times the matrices of both letters of two records side by side, into a line.
-fn times_two_both(first: &[u8], second: &[u8], x: Row, s: &mut Line)
-    requires { ⌜ WellFormed (now first) × WellFormed (now second) × (lettersOf (now second) ≡ lettersOf (now first)) × (lettersOf (now first) ≡ 2) × (mask x < 2 ^ (statesOf (now first) + statesOf (now second))) × (length (now s) ≡ blocks) ⌝ }
-    ensures { λ _. ⌜ Both (now (first .entry)) (now (second .entry)) (mask x) (now (s .exit)) ⌝ }
+// The row x times the matrices of both letters of two records side by side.
+pub fn times_two_both(first: &[u8], second: &[u8], x: Row) -> Two
+    requires { ⌜ WellFormed (now first) × WellFormed (now second) × (lettersOf (now second) ≡ lettersOf (now first)) × (lettersOf (now first) ≡ 2) × (mask x < 2 ^ (statesOf (now first) + statesOf (now second))) ⌝ }
+    ensures { λ r. ⌜ (mask (r .first) ≡ product (statesOf (now (first .entry)) + statesOf (now (second .entry))) (mask x) (beside (rowAt (now (first .entry))) (rowAt (now (second .entry))) (statesOf (now (first .entry))) 0)) × (mask (r .second) ≡ product (statesOf (now (first .entry)) + statesOf (now (second .entry))) (mask x) (beside (rowAt (now (first .entry))) (rowAt (now (second .entry))) (statesOf (now (first .entry))) 1)) ⌝ }
 {
     let n = record::size(first[5]);
     let h = rows::lowered(x, n);
     let low = rows::xor(x, rows::moved(h, n));
     let y = products::times_two(first, 0, low);
     let z = products::times_two(second, 0, h);
-    kernels::put(s, 0, rows::xor(y.first, rows::moved(z.first, n)));
-    kernels::put(s, 1, rows::xor(y.second, rows::moved(z.second, n)));
+    Two {
+        first: rows::xor(y.first, rows::moved(z.first, n)),
+        second: rows::xor(y.second, rows::moved(z.second, n)),
+    }
 }
 
 // The row x times the matrix of every letter of two records side by side, into a line: a line for each, then both merged.
-fn times_lines(first: &[u8], second: &[u8], x: Row, s: &mut Line)
+pub fn times_both(first: &[u8], second: &[u8], x: Row, s: &mut Line)
     requires { ⌜ WellFormed (now first) × WellFormed (now second) × (lettersOf (now second) ≡ lettersOf (now first)) × (mask x < 2 ^ (statesOf (now first) + statesOf (now second))) × (length (now s) ≡ blocks) ⌝ }
     ensures { λ _. ⌜ Both (now (first .entry)) (now (second .entry)) (mask x) (now (s .exit)) ⌝ }
 {
@@ -57,17 +60,4 @@ fn times_lines(first: &[u8], second: &[u8], x: Row, s: &mut Line)
         kernels::put(s, l, rows::xor(kernels::pick(s, l), z));
         l += 1;
     }
-}
-
-// The same: over two letters there are no lines to merge.
-pub fn times_both(first: &[u8], second: &[u8], x: Row, s: &mut Line)
-    requires { ⌜ WellFormed (now first) × WellFormed (now second) × (lettersOf (now second) ≡ lettersOf (now first)) × (mask x < 2 ^ (statesOf (now first) + statesOf (now second))) × (length (now s) ≡ blocks) ⌝ }
-    ensures { λ _. ⌜ Both (now (first .entry)) (now (second .entry)) (mask x) (now (s .exit)) ⌝ }
-{
-    let a = record::size(first[6]);
-    if a == 2 {
-        times_two_both(first, second, x, s);
-        return;
-    }
-    times_lines(first, second, x, s);
 }

@@ -76,6 +76,31 @@ fn try_each(
     Hunt::Going(r)
 }
 
+// The same over two letters, the products made in one pass.
+fn try_two(
+    first: &[u8],
+    second: &[u8],
+    m: Machine,
+    b: &mut [u64],
+    stride: usize,
+    w: &mut Trail,
+    s: Size,
+    k: usize,
+    x: Row,
+) -> Hunt
+    requires { ⌜ Paired (now first) (now second) m × Hunting stride (m .letters) (besideOf (now first) (now second)) (m .states) (mask (m .initial)) (mask (m .finals)) (now b) (now w) (s .count) k 0 (mask (s .pivots)) (mask (s .used)) × (k < s .count) × (mask x ≡ cell stride (now b) 1 k) × (m .letters ≡ 2) ⌝ }
+    ensures { λ r. ⌜ Hunted stride (m .letters) (besideOf (now (first .entry)) (now (second .entry))) (m .states) (mask (m .initial)) (mask (m .finals)) (now (b .exit)) (now (w .exit)) (s .count) (k + 1) 0 r ⌝ }
+{
+    let p = pair_products::times_two_both(first, second, x);
+    let y = p.first;
+    let z = p.second;
+    let h = hunt::try_pair(first, second, m, b, stride, w, y, s, k, 0);
+    let Hunt::Going(next) = h else {
+        return h;
+    };
+    hunt::try_pair(first, second, m, b, stride, w, z, next, k, 1)
+}
+
 // Whether x has at most two bits, as a row of two deterministic machines side by side has.
 fn is_sparse(x: Row) -> bool {
     if rows::is_none(x) {
@@ -88,11 +113,14 @@ fn is_sparse(x: Row) -> bool {
     rows::is_none(rows::clear_lowest(y))
 }
 
-// Whether the products of a row x over a letters are made one by one: two letters go in one pass, and from four on a line is worth its
-// making, unless the row has few bits. It decides how products are made and not what they are, so that it promises nothing.
-fn one_by_one(a: usize, x: Row) -> bool {
-    if a < 4 {
-        return a == 3;
+// Whether the products of a row x are made one by one: from four letters on a line is worth its making, unless there are few states or the
+// row has few bits. It decides how products are made and not what they are, so that it promises nothing.
+fn one_by_one(m: Machine, x: Row) -> bool {
+    if m.letters < 4 {
+        return true;
+    }
+    if m.states <= 4 {
+        return true;
     }
     is_sparse(x)
 }
@@ -112,7 +140,10 @@ fn try_row(
     ensures { λ r. ⌜ Hunted stride (m .letters) (besideOf (now (first .entry)) (now (second .entry))) (m .states) (mask (m .initial)) (mask (m .finals)) (now (b .exit)) (now (w .exit)) (s .count) (k + 1) 0 r ⌝ }
 {
     let x = basis::get(b, stride, 1, k);
-    if one_by_one(m.letters, x) {
+    if m.letters == 2 {
+        return try_two(first, second, m, b, stride, w, s, k, x);
+    }
+    if one_by_one(m, x) {
         return try_each(first, second, m, b, stride, w, s, k, x);
     }
     try_line(first, second, m, b, stride, w, s, k, x)

@@ -1,31 +1,152 @@
--- `times_both`: two letters by themselves, or every letter by lines.
-use mathlib.Core.Path.{sym, _∙_}
+-- `times_both`: the row in two parts, the products of each, and the entries below l merged.
+use mathlib.Core.Path.{refl}
+use denote.Ref.{now}
+use Prim.Native.Nat.{_+_, _-_, _^_, _≤_, _<_}
 use native.Mathlib.Omega.{arith}
+use Rattle.rows.specs.Row.{width, mask}
+use Rattle.rows.proofs.BesideLaws.{moved-fits, high-lt, low-lt}
+use Rattle.record.specs.Record.{statesOf, lettersOf, maxStates, maxLetters}
 use Rattle.record.proofs.Refusals.{good-check}
-use borrow.Author.Needs.{needs}
+use Rattle.products.proofs.LineLaws.{Merged, merged-start, merged-step, entry-lt, both-merged}
 use Rattle.pair_products.proofs.times_both.Statement.{statement}
 use Rattle.pair_products.proofs.times_both.Tie as tie
 
-shared-slice-read-size : tie.Need-shared-slice-read-size
+abbrev Inv-loop : tie.InvT-loop
+Inv-loop first second s₀ n a t l₀ s l = (l ≤ a) × Merged l n s₀ t s
+
+abbrev μ-loop : tie.MeasureT-loop
+μ-loop first second s₀ n a t l₀ s l = a - l
+
+-- Both records are small.
+first-states : (c : tie.Start Inv-loop μ-loop) → statesOf (now (c .args .first)) ≤ maxStates
+first-states c = good-check _ (c .pre .0) .front .states
+
+second-states : (c : tie.Start Inv-loop μ-loop) → statesOf (now (c .args .second)) ≤ maxStates
+second-states c = good-check _ (c .pre .1) .front .states
+
+letters : (c : tie.Start Inv-loop μ-loop) → lettersOf (now (c .args .first)) ≤ maxLetters
+letters c = good-check _ (c .pre .0) .front .letters
+
+-- The part of the row for the second record.
+high : (c : tie.After-lowered Inv-loop μ-loop) → mask (c .lowered .result) < 2 ^ statesOf (now (c .before .before .before .before .before .before .before .args .second))
+high c =
+    let s = c .before .before .before .before .before .before .before in
+    rw (c .lowered .ensures, c .before .before .before .size .ensures .0) (high-lt (statesOf (now (s .args .first))) (statesOf (now (s .args .second))) (mask (s .args .x)) (s .pre .3))
+
+-- Letter l is one of both records.
+letter : (c : tie.In-loop Inv-loop μ-loop) → c .before .loop .l < lettersOf (now (c .before .before .before .before .before .before .before .before .before .before .before .before .before .before .before .args .first))
+letter c = omega (arith, c .before .before .before .before .before .before .before .before .before .size2 .ensures .0, c .loop-test .taken)
+
+shared-slice-read-size : tie.Need-shared-slice-read-size Inv-loop μ-loop
 shared-slice-read-size c = let f = good-check _ (c .before .before .before .pre .0) .front in omega arith
 
-size-requires : tie.Need-size-requires
-size-requires c κs = search needs
+size-requires : tie.Need-size-requires Inv-loop μ-loop
+size-requires c κs = tt
 
-times-two-both-requires : tie.Need-times-two-both-requires
-times-two-both-requires c κs =
-    let p = c .before .before .before .before .before .before .pre in
-    (p .0, p .1, p .2, sym (c .before .before .size .ensures .0) ∙ c .before .if1 .taken, p .3, p .4)
+shared-slice-read-size-2 : tie.Need-shared-slice-read-size-2 Inv-loop μ-loop
+shared-slice-read-size-2 c = let f = good-check _ (c .before .before .before .before .before .pre .0) .front in omega arith
 
-returns : tie.Need-returns
-returns c = c .times-two-both .ensures
+size-requires-2 : tie.Need-size-requires-2 Inv-loop μ-loop
+size-requires-2 c κs = tt
 
-times-lines-requires : tie.Need-times-lines-requires
-times-lines-requires c κs = search needs
+lowered-requires : tie.Need-lowered-requires Inv-loop μ-loop
+lowered-requires c κs = omega (arith, first-states (c .before .before .before .before .before .before), c .before .before .size .ensures .0)
 
-returns-2 : tie.Need-returns-2
-returns-2 c = c .times-lines .ensures
+moved-requires : tie.Need-moved-requires Inv-loop μ-loop
+moved-requires c κs =
+    let s = c .before .before .before .before .before .before .before in
+    let n = c .before .before .before .size in
+    let small : n .result + statesOf (now (s .args .second)) ≤ width = omega (arith, first-states s, second-states s, n .ensures .0) in
+    (omega (arith, first-states s, n .ensures .0), moved-fits (n .result) (statesOf (now (s .args .second))) (mask (c .lowered .result)) (high c) small)
+
+xor-requires : tie.Need-xor-requires Inv-loop μ-loop
+xor-requires c κs = tt
+
+times-all-requires : tie.Need-times-all-requires Inv-loop μ-loop
+times-all-requires c κs =
+    let s = c .before .before .before .before .before .before .before .before .before .before in
+    let h = c .before .before .before in
+    (s .pre .0, rw (c .before .xor .ensures, c .before .before .moved .ensures, h .lowered .ensures, h .before .before .before .size .ensures .0) (low-lt (statesOf (now (s .args .first))) (mask (s .args .x))), s .pre .4)
+
+times-all-requires-2 : tie.Need-times-all-requires-2 Inv-loop μ-loop
+times-all-requires-2 c κs = (c .before .before .before .before .before .before .before .before .before .before .before .before .pre .1, high (c .before .before .before .before .before), refl)
+
+loop-holds : tie.Need-loop-holds Inv-loop μ-loop
+loop-holds c = (omega arith, merged-start _ _ _ (c .before .before .times-all .ensures .0))
+
+pick-requires : tie.Need-pick-requires Inv-loop μ-loop
+pick-requires c κs = omega (arith, letter (c .before), letters (c .before .before .before .before .before .before .before .before .before .before .before .before .before .before .before .before))
+
+moved-requires-2 : tie.Need-moved-requires-2 Inv-loop μ-loop
+moved-requires-2 c κs =
+    let b = c .before .before in
+    let s = b .before .before .before .before .before .before .before .before .before .before .before .before .before .before .before in
+    let n = b .before .before .before .before .before .before .before .before .before .before .before .size in
+    let w = b .before .before .times-all2 in
+    let h = b .before .before .before .before .before .before .before .before .lowered in
+    let small : n .result + statesOf (now (s .args .second)) ≤ width = omega (arith, first-states s, second-states s, n .ensures .0) in
+    let less = entry-lt (now (s .args .second)) (mask (h .result)) (w .last .1 .1 .0) (s .pre .1) (w .ensures) (b .before .loop .l) (omega (arith, letter b, s .pre .2)) in
+    (omega (arith, first-states s, n .ensures .0), moved-fits (n .result) (statesOf (now (s .args .second))) (mask (c .pick .result)) (rw (c .pick .ensures) less) small)
+
+pick-requires-2 : tie.Need-pick-requires-2 Inv-loop μ-loop
+pick-requires-2 c κs = omega (arith, letter (c .before .before .before .before .before), letters (c .before .before .before .before .before .before .before .before .before .before .before .before .before .before .before .before .before .before .before .before))
+
+xor-requires-2 : tie.Need-xor-requires-2 Inv-loop μ-loop
+xor-requires-2 c κs = tt
+
+put-requires : tie.Need-put-requires Inv-loop μ-loop
+put-requires c κs = omega (arith, letter (c .before .before .before .before .before .before .before), letters (c .before .before .before .before .before .before .before .before .before .before .before .before .before .before .before .before .before .before .before .before .before .before))
+
+add-l : tie.Need-add-l Inv-loop μ-loop
+add-l c = omega (arith, letter (c .before .before .before .before .before .before .before .before), letters (c .before .before .before .before .before .before .before .before .before .before .before .before .before .before .before .before .before .before .before .before .before .before .before))
+
+loop-less : tie.Need-loop-less Inv-loop μ-loop
+loop-less c = omega (arith, c .before .before .before .before .before .before .before .before .loop-test .taken)
+
+loop-again : tie.Need-loop-again Inv-loop μ-loop
+loop-again c =
+    let b = c .before .before .before .before .before .before .before .before in
+    let v = b .before .loop in
+    let s = b .before .before .before .before .before .before .before .before .before .before .before .before .before .before .before in (
+      omega (arith, b .loop-test .taken),
+      merged-step (v .l) (b .before .before .before .before .before .before .before .before .before .before .before .size .result) (b .before .before .before .before .times-all .last .1 .1 .0) (b .before .before .times-all2 .last .1 .1 .0) (v .s) (omega (arith, letter b, letters s))
+          (c .before .before .pick2 .ensures) (c .before .before .before .before .before .before .pick .ensures) (c .before .before .before .before .before .moved2 .ensures) (c .before .xor2 .ensures) (c .put .ensures) (v .inv .1),
+    )
+
+returns : tie.Need-returns Inv-loop μ-loop
+returns c =
+    let b = c .before in
+    let v = b .loop in
+    let s = b .before .before .before .before .before .before .before .before .before .before .before .before .before .before in
+    let n = b .before .before .before .before .before .before .before .before .before .before .size in
+    let h = b .before .before .before .before .before .before .before .lowered in
+    let u = b .before .before .before .times-all in
+    let w = b .before .times-all2 in
+    both-merged (now (s .args .first)) (now (s .args .second)) (mask (s .args .x)) (n .result) (v .l) (u .last .1 .1 .0) (w .last .1 .1 .0) (v .s) (s .pre .2) (n .ensures .0)
+    (omega (arith, b .before .before .before .before .before .before .before .before .size2 .ensures .0, c .loop-test .left, v .inv .0)) (h .ensures) (rw (← b .before .before .before .before .before .before .moved .ensures) (b .before .before .before .before .before .xor .ensures)) (u .ensures) (w .ensures) (v .inv .1)
 
 pub times-both-spec : {M : Type 1} → statement M
 times-both-spec =
-    tie.close (tie.spec shared-slice-read-size size-requires times-two-both-requires returns times-lines-requires returns-2)
+    tie.close
+    (tie.spec
+    Inv-loop
+    μ-loop
+    shared-slice-read-size
+    size-requires
+    shared-slice-read-size-2
+    size-requires-2
+    lowered-requires
+    moved-requires
+    xor-requires
+    times-all-requires
+    times-all-requires-2
+    loop-holds
+    pick-requires
+    moved-requires-2
+    pick-requires-2
+    xor-requires-2
+    put-requires
+    add-l
+    loop-less
+    loop-again
+    returns)

@@ -1,15 +1,10 @@
 -- `times_two_both`: the row in two parts, the products of each with both matrices of its own record.
-use mathlib.Core.Path.{_≡_}
 use native.Mathlib.Omega.{arith}
-use Prim.Native.Nat.{ℕ, _+_}
 use denote.Ref.{now}
 use Rattle.rows.specs.Row.{mask}
-use Rattle.rows.specs.Beside.{beside}
-use Rattle.record.specs.Record.{statesOf, lettersOf, rowAt}
+use Rattle.record.specs.Record.{statesOf, rowAt}
 use Rattle.record.proofs.Refusals.{good-check}
-use Rattle.products.proofs.LineLaws.{upto-none, upto-step}
 use Rattle.products.proofs.PairLaws.{high-part, low-part, pair-product, moves-up, product-below}
-use borrow.Author.Needs.{needs}
 use Rattle.pair_products.proofs.times_two_both.Statement.{statement}
 use Rattle.pair_products.proofs.times_two_both.Tie as tie
 
@@ -48,51 +43,43 @@ times-two-requires-2 c κs =
 
 moved-requires-2 : tie.Need-moved-requires-2
 moved-requires-2 c κs =
-    let s = c .before .before .before .before .before .before .before .before .before .before in
+    let s = c .before .before .before .before .before .before .before .before .before in
     let a = s .args in
-    let k = c .before .before .before .before .before .before .size in
-    let z = c .before .times-two2 in
+    let k = c .before .before .before .before .before .size in
+    let z = c .times-two2 in
     let y = mask (z .result .first) in
-    moves-up (now (a .first)) (now (a .second)) (s .pre .0) (s .pre .1) (k .result) y (k .ensures .0) (product-below (now (a .second)) (s .pre .1) 0 (mask (c .before .before .before .before .before .lowered .result)) y (omega (arith, s .pre .2, s .pre .3)) (z .ensures .0))
+    moves-up (now (a .first)) (now (a .second)) (s .pre .0) (s .pre .1) (k .result) y (k .ensures .0) (product-below (now (a .second)) (s .pre .1) 0 (mask (c .before .before .before .before .lowered .result)) y (omega (arith, s .pre .2, s .pre .3)) (z .ensures .0))
 
 xor-requires-2 : tie.Need-xor-requires-2
 xor-requires-2 c κs = tt
 
-put-requires : tie.Need-put-requires
-put-requires c κs = search needs
-
 moved-requires-3 : tie.Need-moved-requires-3
 moved-requires-3 c κs =
-    let s = c .before .before .before .before .before .before .before .before .before .before .before .before .before .before in
+    let s = c .before .before .before .before .before .before .before .before .before .before .before in
     let a = s .args in
-    let k = c .before .before .before .before .before .before .before .before .before .before .size in
-    let z = c .before .before .before .before .before .times-two2 in
+    let k = c .before .before .before .before .before .before .before .size in
+    let z = c .before .before .times-two2 in
     let y = mask (z .result .second) in
-    moves-up (now (a .first)) (now (a .second)) (s .pre .0) (s .pre .1) (k .result) y (k .ensures .0) (product-below (now (a .second)) (s .pre .1) 1 (mask (c .before .before .before .before .before .before .before .before .before .lowered .result)) y (omega (arith, s .pre .2, s .pre .3)) (z .ensures .1))
+    moves-up (now (a .first)) (now (a .second)) (s .pre .0) (s .pre .1) (k .result) y (k .ensures .0) (product-below (now (a .second)) (s .pre .1) 1 (mask (c .before .before .before .before .before .before .lowered .result)) y (omega (arith, s .pre .2, s .pre .3)) (z .ensures .1))
 
 xor-requires-3 : tie.Need-xor-requires-3
 xor-requires-3 c κs = tt
 
-put-requires-2 : tie.Need-put-requires-2
-put-requires-2 c κs = search needs
-
 returns : tie.Need-returns
 returns c =
-    let s = c .before .before .before .before .before .before .before .before .before .before .before .before .before .before .before .before .before in
-    let a = s .args in
+    let a = c .before .before .before .before .before .before .before .before .before .before .before .before .before .args in
     let bs = now (a .first) in
     let cs = now (a .second) in
-    let M : ℕ → ℕ → ℕ = beside (rowAt bs) (rowAt cs) (statesOf bs) in
-    let n = statesOf bs + statesOf cs in
-    let x = mask (a .x) in
-    let k = c .before .before .before .before .before .before .before .before .before .before .before .before .before .size in
-    let y = c .before .before .before .before .before .before .before .before .before .times-two in
-    let z = c .before .before .before .before .before .before .before .before .times-two2 in
-    let e0 = pair-product (statesOf bs) (statesOf cs) x (k .result) (mask (c .before .before .before .before .before .before .before .before .before .before .before .before .lowered .result)) (k .ensures .0) (c .before .before .before .before .before .before .before .before .before .before .before .before .lowered .ensures) (mask (c .before .before .before .before .before .before .before .before .before .before .before .moved .result)) (mask (c .before .before .before .before .before .before .before .before .before .before .xor .result)) (c .before .before .before .before .before .before .before .before .before .before .before .moved .ensures) (c .before .before .before .before .before .before .before .before .before .before .xor .ensures) (rowAt bs) (rowAt cs) 0 (mask (y .result .first)) (mask (z .result .first)) (mask (c .before .before .before .before .before .before .moved2 .result)) (mask (c .before .before .before .before .before .xor2 .result)) (y .ensures .0) (z .ensures .0) (c .before .before .before .before .before .before .moved2 .ensures) (c .before .before .before .before .before .xor2 .ensures) in
-    let e1 = pair-product (statesOf bs) (statesOf cs) x (k .result) (mask (c .before .before .before .before .before .before .before .before .before .before .before .before .lowered .result)) (k .ensures .0) (c .before .before .before .before .before .before .before .before .before .before .before .before .lowered .ensures) (mask (c .before .before .before .before .before .before .before .before .before .before .before .moved .result)) (mask (c .before .before .before .before .before .before .before .before .before .before .xor .result)) (c .before .before .before .before .before .before .before .before .before .before .before .moved .ensures) (c .before .before .before .before .before .before .before .before .before .before .xor .ensures) (rowAt bs) (rowAt cs) 1 (mask (y .result .second)) (mask (z .result .second)) (mask (c .before .before .moved3 .result)) (mask (c .before .xor3 .result)) (y .ensures .1) (z .ensures .1) (c .before .before .moved3 .ensures) (c .before .xor3 .ensures) in
-    let one : 1 ≡ 0 + 1 = omega arith in
-    let two : lettersOf bs ≡ 1 + 1 = omega (arith, s .pre .3) in
-    upto-step 1 (lettersOf bs) M n x (c .before .before .before .before .put .last .0) two (omega arith) e1 (c .put2 .ensures) (upto-step 0 1 M n x (a .s .now) one (omega arith) e0 (c .before .before .before .before .put .ensures) (upto-none M n x (a .s .now) (s .pre .5)))
+    let k = c .before .before .before .before .before .before .before .before .before .size in
+    let h = c .before .before .before .before .before .before .before .before .lowered in
+    let u = c .before .before .before .before .before .before .before .moved in
+    let v = c .before .before .before .before .before .before .xor in
+    let y = c .before .before .before .before .before .times-two in
+    let z = c .before .before .before .before .times-two2 in
+    let e = pair-product (statesOf bs) (statesOf cs) (mask (a .x)) (k .result) (mask (h .result)) (k .ensures .0) (h .ensures) (mask (u .result)) (mask (v .result)) (u .ensures) (v .ensures) (rowAt bs) (rowAt cs) in (
+      e 0 (mask (y .result .first)) (mask (z .result .first)) (mask (c .before .before .before .moved2 .result)) (mask (c .before .before .xor2 .result)) (y .ensures .0) (z .ensures .0) (c .before .before .before .moved2 .ensures) (c .before .before .xor2 .ensures),
+      e 1 (mask (y .result .second)) (mask (z .result .second)) (mask (c .before .moved3 .result)) (mask (c .xor3 .result)) (y .ensures .1) (z .ensures .1) (c .before .moved3 .ensures) (c .xor3 .ensures),
+    )
 
 pub times-two-both-spec : {M : Type 1} → statement M
 times-two-both-spec =
@@ -107,8 +94,6 @@ times-two-both-spec =
     times-two-requires-2
     moved-requires-2
     xor-requires-2
-    put-requires
     moved-requires-3
     xor-requires-3
-    put-requires-2
     returns)

@@ -13,11 +13,8 @@ get-requires c κs =
     let H = s .pre .1 in
     (H .base, omega arith, omega (arith, count-bound (a .stride) (a .m .states) (a .s .count) (mask (a .s .pivots)) (H .coef) (a .b .now) (H .search .basis), H .fits, s .pre .2))
 
-one-by-one-requires : tie.Need-one-by-one-requires
-one-by-one-requires c κs = search needs
-
-try-each-requires : tie.Need-try-each-requires
-try-each-requires c κs = search needs
+try-two-requires : tie.Need-try-two-requires
+try-two-requires c κs = search needs
 
 same-length : tie.Need-same-length
 same-length c = search needs
@@ -25,8 +22,11 @@ same-length c = search needs
 returns : tie.Need-returns
 returns c = search needs
 
-try-line-requires : tie.Need-try-line-requires
-try-line-requires c κs = search needs
+one-by-one-requires : tie.Need-one-by-one-requires
+one-by-one-requires c κs = search needs
+
+try-each-requires : tie.Need-try-each-requires
+try-each-requires c κs = search needs
 
 same-length-2 : tie.Need-same-length-2
 same-length-2 c = search needs
@@ -34,6 +34,27 @@ same-length-2 c = search needs
 returns-2 : tie.Need-returns-2
 returns-2 c = search needs
 
+try-line-requires : tie.Need-try-line-requires
+try-line-requires c κs = search needs
+
+same-length-3 : tie.Need-same-length-3
+same-length-3 c = search needs
+
+returns-3 : tie.Need-returns-3
+returns-3 c = search needs
+
 pub try-row-spec : {M : Type 1} → statement M
 try-row-spec =
-    tie.close (tie.spec get-requires one-by-one-requires try-each-requires same-length returns try-line-requires same-length-2 returns-2)
+    tie.close
+    (tie.spec
+    get-requires
+    try-two-requires
+    same-length
+    returns
+    one-by-one-requires
+    try-each-requires
+    same-length-2
+    returns-2
+    try-line-requires
+    same-length-3
+    returns-3)
