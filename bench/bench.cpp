@@ -159,7 +159,7 @@ static void time_worst(double budget) {
     std::vector<Pair> nothing;
     for (int i = 0; i < INPUTS; i++) {
         thick.push_back(record_of(dense(32, 8, 0.9)));
-        nothing.push_back({record_of(no_final(dense(32, 8))), record_of(no_final(dense(32, 8)))});
+        nothing.push_back({record_of(no_final(dense(32, 8))), record_of(final_out_of_reach(dense(32, 8)))});
     }
     time_check("n=32 a=8", thick, budget);
     time_minimal("density 0.9 n=32 a=8", thick, budget);
@@ -171,6 +171,16 @@ static void time_worst(double budget) {
     }
 }
 
+// One input each: a processor knows by heart which way every branch goes, and what is left is checking, clearing and copying.
+static void time_single(int n, int a, double budget) {
+    Bytes round = record_of(cycle(n, a)), all = record_of(loops(n, a)), some = record_of(without_last(loops(n, a)));
+    Bytes one = record_of(only(n - 1, a)), none = record_of(dense(0, a));
+    time_compare("one cycle with itself" + size_of(n, a), {{round, round}}, budget);
+    time_compare("all words with itself" + size_of(n, a), {{all, all}}, budget);
+    time_compare("one pair, by a letter" + size_of(n, a), {{all, some}}, budget);
+    time_compare("only 0^" + std::to_string(n - 1) + " with no word" + size_of(n, a), {{one, none}}, budget);
+}
+
 int main(int argc, char** argv) {
     double budget = argc > 1 ? std::atof(argv[1]) : 0.25;
     agree(20000);
@@ -179,6 +189,8 @@ int main(int argc, char** argv) {
         for (int a : {1, 2, 8}) time_dense(n, a, budget);
     for (int n : {4, 32})
         for (int a : {1, 2, 8}) time_deterministic(n, a, budget);
+    for (int n : {1, 2, 3, 4, 8, 16})
+        for (int a : {1, 2, 3, 8}) time_single(n, a, budget / 2);
     time_worst(budget);
     worst_lines();
 }

@@ -57,9 +57,48 @@ static inline Machine deterministic(int n, int a) {
     return m;
 }
 
-// Nothing is accepted, though every row can be reached.
+// Nothing is accepted, as no state is final, though every row can be reached.
 static inline Machine no_final(Machine m) {
     m.F = 0;
+    return m;
+}
+
+// Nothing is accepted, as the one final state is out of reach; the rows of the others can be reached.
+static inline Machine final_out_of_reach(Machine m) {
+    u64 last = 1ull << (m.n - 1);
+    m.I &= ~last;
+    m.F = last;
+    for (int l = 0; l < m.a; l++)
+        for (int i = 0; i < m.n; i++) m.T[l][i] &= ~last;
+    return m;
+}
+
+// Letter l leads from each state to the one l + 1 places further; the last one is final.
+static inline Machine cycle(int n, int a) {
+    Machine m;
+    m.n = n;
+    m.a = a;
+    m.I = 1;
+    m.F = 1ull << (n - 1);
+    for (int l = 0; l < a; l++)
+        for (int i = 0; i < n; i++) m.T[l][i] = 1ull << (i + 1 + l) % n;
+    return m;
+}
+
+// Every word: each letter leads from each state to itself.
+static inline Machine loops(int n, int a) {
+    Machine m;
+    m.n = n;
+    m.a = a;
+    m.I = m.F = 1;
+    for (int l = 0; l < a; l++)
+        for (int i = 0; i < n; i++) m.T[l][i] = 1ull << i;
+    return m;
+}
+
+// The last letter leads nowhere from state 0.
+static inline Machine without_last(Machine m) {
+    m.T[m.a - 1][0] = 0;
     return m;
 }
 

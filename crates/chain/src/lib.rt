@@ -7,8 +7,8 @@ ghost use Rattle.rows.specs.Row.{mask};
 ghost use Rattle.basis.specs.Basis.{Room};
 ghost use Rattle.trail.specs.Trail.{trailSize};
 ghost use Rattle.record.specs.Record.{maxStates, statesOf, rowAt, WellFormed};
-ghost use Rattle.hunt.specs.Both.{besideOf, Paired};
-ghost use Rattle.hunt.specs.Hunt.{shared, Hunting, Last, Ended};
+ghost use Rattle.hunt.specs.Both.{Paired};
+ghost use Rattle.hunt.specs.Hunt.{shared, Last, HuntingIn, EndedIn};
 ghost use Rattle.chain.specs.Chain.{Laid, SideBySide};
 use elimination::Size;
 use hunt::Hunt;
@@ -39,8 +39,8 @@ fn try_chain(
     w: &mut Trail,
     s: Size,
 ) -> Hunt
-    requires { ⌜ Paired (now first) (now second) m × (m .letters ≡ 1) × Hunting stride (m .letters) (besideOf (now first) (now second)) (m .states) (mask (m .initial)) (mask (m .finals)) (now b) (now w) (s .count) 0 0 (mask (s .pivots)) (mask (s .used)) × SideBySide stride (now first) (now second) (m .states) (now b) × Last stride 0 (mask (m .initial)) (s .count) (now b) ⌝ }
-    ensures { λ r. ⌜ Ended stride (m .letters) (besideOf (now (first .entry)) (now (second .entry))) (m .states) (mask (m .initial)) (mask (m .finals)) (now (b .exit)) (now (w .exit)) r ⌝ }
+    requires { ⌜ Paired (now first) (now second) m × (m .letters ≡ 1) × HuntingIn stride (now first) (now second) m (now b) (now w) s 0 0 × SideBySide stride (now first) (now second) (m .states) (now b) × Last stride 0 (mask (m .initial)) (s .count) (now b) ⌝ }
+    ensures { λ r. ⌜ EndedIn stride (now (first .entry)) (now (second .entry)) m (now (b .exit)) (now (w .exit)) r ⌝ }
 {
     let mut t = s;
     let mut k: usize = 0;
@@ -68,7 +68,7 @@ pub fn first_along(
     w: &mut Trail,
 ) -> Hunt
     requires { ⌜ Paired (now first) (now second) m × (m .states ≤ stride) × Room stride (now b) × (length (now w) ≡ trailSize) × (shared (m .states) (mask (m .initial)) (mask (m .finals)) ≡ false) × (m .letters ≡ 1) ⌝ }
-    ensures { λ r. ⌜ Ended stride (m .letters) (besideOf (now (first .entry)) (now (second .entry))) (m .states) (mask (m .initial)) (mask (m .finals)) (now (b .exit)) (now (w .exit)) r ⌝ }
+    ensures { λ r. ⌜ EndedIn stride (now (first .entry)) (now (second .entry)) m (now (b .exit)) (now (w .exit)) r ⌝ }
 {
     let n = record::size(first[5]);
     lay(first, 0, b, stride);

@@ -1,16 +1,12 @@
 // The comparison of two well-formed records over the same letters: the first row that just one accepts, and which.
 ghost use mathlib.Core.Path.{_≡_};
-ghost use mathlib.Core.Bool.{false};
 ghost use Prim.Native.Nat.{_≤_};
 ghost use lib.ListN.{length};
-ghost use Rattle.rows.specs.Row.{mask};
 ghost use Rattle.basis.specs.Basis.{Room};
 ghost use Rattle.trail.specs.Trail.{trailSize};
-ghost use Rattle.record.specs.Bytes.{number};
-ghost use Rattle.record.specs.Record.{rowBytes, finalAt, lettersOf, WellFormed, automatonOf};
+ghost use Rattle.record.specs.Record.{lettersOf, WellFormed};
 ghost use Rattle.hunt.specs.Both.{Paired};
-ghost use Rattle.hunt.specs.Hunt.{shared};
-ghost use Rattle.comparison.specs.Judged.{Judged};
+ghost use Rattle.comparison.specs.Judged.{JudgedOf, Undecided};
 use hunt::Hunt;
 use record::FINAL_AT;
 use record::INITIAL_AT;
@@ -51,8 +47,8 @@ const SOME: usize = 16;
 
 // Two records of at most two states together: a word of at most one letter tells their languages apart, if any does.
 fn first_letter(first: &[u8], second: &[u8], m: Machine, g: Row, w: &mut Trail) -> Verdict
-    requires { ⌜ Paired (now first) (now second) m × (m .states ≤ 2) × (length (now w) ≡ trailSize) × (shared (m .states) (mask (m .initial)) (mask (m .finals)) ≡ false) × (mask g ≡ number rowBytes (now first) finalAt) ⌝ }
-    ensures { λ r. ⌜ Judged (lettersOf (now (first .entry))) (automatonOf (now (first .entry))) (automatonOf (now (second .entry))) (now (w .exit)) r ⌝ }
+    requires { ⌜ (m .states ≤ 2) × Undecided (now first) (now second) m g (now w) ⌝ }
+    ensures { λ r. ⌜ JudgedOf (now (first .entry)) (now (second .entry)) (now (w .exit)) r ⌝ }
 {
     let a = m.letters;
     let i = m.initial;
@@ -75,8 +71,8 @@ fn first_letter(first: &[u8], second: &[u8], m: Machine, g: Row, w: &mut Trail) 
 // Over one letter there is one word of each length, and one of fewer letters than both have states tells two languages apart, if any does.
 // So the row of each is tried in turn, and no basis is needed; where the initial row comes again, all that follows was tried before.
 fn first_power(first: &[u8], second: &[u8], m: Machine, g: Row, w: &mut Trail) -> Verdict
-    requires { ⌜ Paired (now first) (now second) m × (m .letters ≡ 1) × (length (now w) ≡ trailSize) × (shared (m .states) (mask (m .initial)) (mask (m .finals)) ≡ false) × (mask g ≡ number rowBytes (now first) finalAt) ⌝ }
-    ensures { λ r. ⌜ Judged (lettersOf (now (first .entry))) (automatonOf (now (first .entry))) (automatonOf (now (second .entry))) (now (w .exit)) r ⌝ }
+    requires { ⌜ (m .letters ≡ 1) × Undecided (now first) (now second) m g (now w) ⌝ }
+    ensures { λ r. ⌜ JudgedOf (now (first .entry)) (now (second .entry)) (now (w .exit)) r ⌝ }
 {
     let n = m.states;
     let i = m.initial;
@@ -110,8 +106,8 @@ fn first_row(
     stride: usize,
     w: &mut Trail,
 ) -> Verdict
-    requires { ⌜ Paired (now first) (now second) m × (length (now w) ≡ trailSize) × (shared (m .states) (mask (m .initial)) (mask (m .finals)) ≡ false) × (mask g ≡ number rowBytes (now first) finalAt) × (m .states ≤ stride) × Room stride (now b) ⌝ }
-    ensures { λ r. ⌜ Judged (lettersOf (now (first .entry))) (automatonOf (now (first .entry))) (automatonOf (now (second .entry))) (now (w .exit)) r ⌝ }
+    requires { ⌜ (m .states ≤ stride) × Room stride (now b) × Undecided (now first) (now second) m g (now w) ⌝ }
+    ensures { λ r. ⌜ JudgedOf (now (first .entry)) (now (second .entry)) (now (w .exit)) r ⌝ }
 {
     let found = search::first_accepted(first, second, m, b, stride, w);
     let Hunt::Found(r) = found else {
@@ -126,8 +122,8 @@ fn first_row(
 
 // The same in a basis for few states.
 fn search_few(first: &[u8], second: &[u8], m: Machine, g: Row, w: &mut Trail) -> Verdict
-    requires { ⌜ Paired (now first) (now second) m × (length (now w) ≡ trailSize) × (shared (m .states) (mask (m .initial)) (mask (m .finals)) ≡ false) × (mask g ≡ number rowBytes (now first) finalAt) × (m .states ≤ 8) ⌝ }
-    ensures { λ r. ⌜ Judged (lettersOf (now (first .entry))) (automatonOf (now (first .entry))) (automatonOf (now (second .entry))) (now (w .exit)) r ⌝ }
+    requires { ⌜ (m .states ≤ 8) × Undecided (now first) (now second) m g (now w) ⌝ }
+    ensures { λ r. ⌜ JudgedOf (now (first .entry)) (now (second .entry)) (now (w .exit)) r ⌝ }
 {
     let mut b = [0u64; 24];
     first_row(first, second, m, g, &mut b, FEW, w)
@@ -135,8 +131,8 @@ fn search_few(first: &[u8], second: &[u8], m: Machine, g: Row, w: &mut Trail) ->
 
 // The same in a basis for some more.
 fn search_some(first: &[u8], second: &[u8], m: Machine, g: Row, w: &mut Trail) -> Verdict
-    requires { ⌜ Paired (now first) (now second) m × (length (now w) ≡ trailSize) × (shared (m .states) (mask (m .initial)) (mask (m .finals)) ≡ false) × (mask g ≡ number rowBytes (now first) finalAt) × (m .states ≤ 16) ⌝ }
-    ensures { λ r. ⌜ Judged (lettersOf (now (first .entry))) (automatonOf (now (first .entry))) (automatonOf (now (second .entry))) (now (w .exit)) r ⌝ }
+    requires { ⌜ (m .states ≤ 16) × Undecided (now first) (now second) m g (now w) ⌝ }
+    ensures { λ r. ⌜ JudgedOf (now (first .entry)) (now (second .entry)) (now (w .exit)) r ⌝ }
 {
     let mut b = [0u64; 48];
     first_row(first, second, m, g, &mut b, SOME, w)
@@ -144,8 +140,8 @@ fn search_some(first: &[u8], second: &[u8], m: Machine, g: Row, w: &mut Trail) -
 
 // The same in a basis for as many states as two records can have.
 fn search_many(first: &[u8], second: &[u8], m: Machine, g: Row, w: &mut Trail) -> Verdict
-    requires { ⌜ Paired (now first) (now second) m × (length (now w) ≡ trailSize) × (shared (m .states) (mask (m .initial)) (mask (m .finals)) ≡ false) × (mask g ≡ number rowBytes (now first) finalAt) ⌝ }
-    ensures { λ r. ⌜ Judged (lettersOf (now (first .entry))) (automatonOf (now (first .entry))) (automatonOf (now (second .entry))) (now (w .exit)) r ⌝ }
+    requires { ⌜ Undecided (now first) (now second) m g (now w) ⌝ }
+    ensures { λ r. ⌜ JudgedOf (now (first .entry)) (now (second .entry)) (now (w .exit)) r ⌝ }
 {
     let mut b = [0u64; 192];
     first_row(first, second, m, g, &mut b, basis::WIDEST, w)
@@ -153,8 +149,8 @@ fn search_many(first: &[u8], second: &[u8], m: Machine, g: Row, w: &mut Trail) -
 
 // The first word of one letter or more that just one accepts, by the shortest way for so many states and letters.
 fn first_longer(first: &[u8], second: &[u8], m: Machine, g: Row, w: &mut Trail) -> Verdict
-    requires { ⌜ Paired (now first) (now second) m × (length (now w) ≡ trailSize) × (shared (m .states) (mask (m .initial)) (mask (m .finals)) ≡ false) × (mask g ≡ number rowBytes (now first) finalAt) ⌝ }
-    ensures { λ r. ⌜ Judged (lettersOf (now (first .entry))) (automatonOf (now (first .entry))) (automatonOf (now (second .entry))) (now (w .exit)) r ⌝ }
+    requires { ⌜ Undecided (now first) (now second) m g (now w) ⌝ }
+    ensures { λ r. ⌜ JudgedOf (now (first .entry)) (now (second .entry)) (now (w .exit)) r ⌝ }
 {
     if m.states <= 2 {
         return first_letter(first, second, m, g, w);
@@ -176,7 +172,7 @@ fn first_longer(first: &[u8], second: &[u8], m: Machine, g: Row, w: &mut Trail) 
 // Compares the words of two well-formed records over the same letters; w is left with the words of the rows found.
 pub fn compare(first: &[u8], second: &[u8], w: &mut Trail) -> Verdict
     requires { ⌜ WellFormed (now first) × WellFormed (now second) × (lettersOf (now first) ≡ lettersOf (now second)) × (length (now w) ≡ trailSize) ⌝ }
-    ensures { λ r. ⌜ Judged (lettersOf (now (first .entry))) (automatonOf (now (first .entry))) (automatonOf (now (second .entry))) (now (w .exit)) r ⌝ }
+    ensures { λ r. ⌜ JudgedOf (now (first .entry)) (now (second .entry)) (now (w .exit)) r ⌝ }
 {
     let m = paired(first, second);
     let i = m.initial;

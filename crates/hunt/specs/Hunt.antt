@@ -7,6 +7,7 @@
 --   Last        if row k is found, it is the last of the d rows found, and x
 --   Grown       a row that the step finds is its product y, and the last one
 --   Started     the initial row i is placed in the empty basis; block 2 stays
+-- HuntingIn, HuntedIn and EndedIn say Hunting, Hunted and Ended of two records side by side: m has their sizes, initial row and final column.
 use mathlib.Core.Path.{_≡_}
 use mathlib.Core.Bool.{Bool, true, false, _&&_}
 use mathlib.Core.List.{List}
@@ -14,11 +15,14 @@ use Prim.Native.Nat.{ℕ, _+_, _<_, _≤_}
 use lib.ListN.{length}
 use Rattle.automata.specs.Xor.{xorBelow}
 use Rattle.automata.specs.Mask.{bitOf}
+use Rattle.rows.specs.declared.Machine.{Machine}
 use Rattle.rows.specs.Row.{mask}
 use Rattle.basis.specs.Basis.{cell, Room}
 use Rattle.trail.specs.Trail.{trailSize, fromIn, byIn}
+use Rattle.elimination.specs.declared.Size.{Size}
 use Rattle.elimination.specs.Place.{Covered, Placed}
 use Rattle.reduction.specs.Tables.{SearchIn, accepted}
+use Rattle.hunt.specs.Both.{besideOf}
 use Rattle.hunt.specs.declared.Hunt.{Hunt}
 use Rattle.hunt.specs.declared.Hunt.the-variants.{Going, Found}
 
@@ -70,3 +74,12 @@ pub record Started (σ n i : ℕ) (b b′ : List ℕ) (d p v : ℕ) : Type 0 whe
   pub made : ℕ → Bool
   pub placed : Placed σ n 0 0 0 i coef coef′ made b b′ d p v
   pub kept : (j : ℕ) → j < σ → cell σ b′ 2 j ≡ cell σ b 2 j
+
+abbrev pub HuntingIn : ℕ → List ℕ → List ℕ → Machine → List ℕ → List ℕ → Size → ℕ → ℕ → Type 0
+HuntingIn σ bs cs m b w s k l = Hunting σ (m .letters) (besideOf bs cs) (m .states) (mask (m .initial)) (mask (m .finals)) b w (s .count) k l (mask (s .pivots)) (mask (s .used))
+
+abbrev pub HuntedIn : ℕ → List ℕ → List ℕ → Machine → List ℕ → List ℕ → ℕ → ℕ → ℕ → Hunt → Type 0
+HuntedIn σ bs cs m b w d k l r = Hunted σ (m .letters) (besideOf bs cs) (m .states) (mask (m .initial)) (mask (m .finals)) b w d k l r
+
+abbrev pub EndedIn : ℕ → List ℕ → List ℕ → Machine → List ℕ → List ℕ → Hunt → Type 0
+EndedIn σ bs cs m b w r = Ended σ (m .letters) (besideOf bs cs) (m .states) (mask (m .initial)) (mask (m .finals)) b w r

@@ -5,7 +5,7 @@ ghost use Rattle.rows.specs.Row.{width, mask};
 ghost use Rattle.rows.specs.Product.{product};
 ghost use Rattle.basis.specs.Basis.{cell, Room};
 ghost use Rattle.hunt.specs.Both.{besideOf, Paired};
-ghost use Rattle.hunt.specs.Hunt.{Hunting, Hunted, Grown, Started};
+ghost use Rattle.hunt.specs.Hunt.{Grown, Started, HuntingIn, HuntedIn};
 use elimination::Size;
 use rows::Machine;
 use rows::Row;
@@ -30,8 +30,8 @@ pub fn try_pair(
     k: usize,
     l: usize,
 ) -> Hunt
-    requires { ⌜ Paired (now first) (now second) m × Hunting stride (m .letters) (besideOf (now first) (now second)) (m .states) (mask (m .initial)) (mask (m .finals)) (now b) (now w) (s .count) k l (mask (s .pivots)) (mask (s .used)) × (k < s .count) × (l < m .letters) × (mask y ≡ product (m .states) (cell stride (now b) 1 k) (besideOf (now first) (now second) l)) ⌝ }
-    ensures { λ r. ⌜ Hunted stride (m .letters) (besideOf (now (first .entry)) (now (second .entry))) (m .states) (mask (m .initial)) (mask (m .finals)) (now (b .exit)) (now (w .exit)) (s .count) k (l + 1) r × (cell stride (now (b .exit)) 1 k ≡ cell stride (now (b .entry)) 1 k) × ((i : ℕ) → i < stride → cell stride (now (b .exit)) 2 i ≡ cell stride (now (b .entry)) 2 i) × Grown stride (s .count) (mask y) (now (b .exit)) r ⌝ }
+    requires { ⌜ Paired (now first) (now second) m × HuntingIn stride (now first) (now second) m (now b) (now w) s k l × (k < s .count) × (l < m .letters) × (mask y ≡ product (m .states) (cell stride (now b) 1 k) (besideOf (now first) (now second) l)) ⌝ }
+    ensures { λ r. ⌜ HuntedIn stride (now (first .entry)) (now (second .entry)) m (now (b .exit)) (now (w .exit)) (s .count) k (l + 1) r × (cell stride (now (b .exit)) 1 k ≡ cell stride (now (b .entry)) 1 k) × ((i : ℕ) → i < stride → cell stride (now (b .exit)) 2 i ≡ cell stride (now (b .entry)) 2 i) × Grown stride (s .count) (mask y) (now (b .exit)) r ⌝ }
 {
     // Most products of a sparse machine have no bits, and are an xor of no rows.
     if rows::is_none(y) {

@@ -6,8 +6,8 @@ ghost use lib.ListN.{length};
 ghost use Rattle.rows.specs.Row.{mask};
 ghost use Rattle.basis.specs.Basis.{cell, Room};
 ghost use Rattle.trail.specs.Trail.{trailSize};
-ghost use Rattle.hunt.specs.Both.{besideOf, Paired};
-ghost use Rattle.hunt.specs.Hunt.{shared, Hunting, Hunted, Ended};
+ghost use Rattle.hunt.specs.Both.{Paired};
+ghost use Rattle.hunt.specs.Hunt.{shared, HuntingIn, HuntedIn, EndedIn};
 use elimination::Size;
 use hunt::Hunt;
 use rows::Machine;
@@ -26,8 +26,8 @@ fn try_line(
     k: usize,
     x: Row,
 ) -> Hunt
-    requires { ⌜ Paired (now first) (now second) m × Hunting stride (m .letters) (besideOf (now first) (now second)) (m .states) (mask (m .initial)) (mask (m .finals)) (now b) (now w) (s .count) k 0 (mask (s .pivots)) (mask (s .used)) × (k < s .count) × (mask x ≡ cell stride (now b) 1 k) ⌝ }
-    ensures { λ r. ⌜ Hunted stride (m .letters) (besideOf (now (first .entry)) (now (second .entry))) (m .states) (mask (m .initial)) (mask (m .finals)) (now (b .exit)) (now (w .exit)) (s .count) (k + 1) 0 r ⌝ }
+    requires { ⌜ Paired (now first) (now second) m × HuntingIn stride (now first) (now second) m (now b) (now w) s k 0 × (k < s .count) × (mask x ≡ cell stride (now b) 1 k) ⌝ }
+    ensures { λ r. ⌜ HuntedIn stride (now (first .entry)) (now (second .entry)) m (now (b .exit)) (now (w .exit)) (s .count) (k + 1) 0 r ⌝ }
 {
     let a = m.letters;
     let mut y = [0u64; 8];
@@ -58,8 +58,8 @@ fn try_each(
     k: usize,
     x: Row,
 ) -> Hunt
-    requires { ⌜ Paired (now first) (now second) m × Hunting stride (m .letters) (besideOf (now first) (now second)) (m .states) (mask (m .initial)) (mask (m .finals)) (now b) (now w) (s .count) k 0 (mask (s .pivots)) (mask (s .used)) × (k < s .count) × (mask x ≡ cell stride (now b) 1 k) ⌝ }
-    ensures { λ r. ⌜ Hunted stride (m .letters) (besideOf (now (first .entry)) (now (second .entry))) (m .states) (mask (m .initial)) (mask (m .finals)) (now (b .exit)) (now (w .exit)) (s .count) (k + 1) 0 r ⌝ }
+    requires { ⌜ Paired (now first) (now second) m × HuntingIn stride (now first) (now second) m (now b) (now w) s k 0 × (k < s .count) × (mask x ≡ cell stride (now b) 1 k) ⌝ }
+    ensures { λ r. ⌜ HuntedIn stride (now (first .entry)) (now (second .entry)) m (now (b .exit)) (now (w .exit)) (s .count) (k + 1) 0 r ⌝ }
 {
     let a = m.letters;
     let mut r = s;
@@ -88,8 +88,8 @@ fn try_two(
     k: usize,
     x: Row,
 ) -> Hunt
-    requires { ⌜ Paired (now first) (now second) m × Hunting stride (m .letters) (besideOf (now first) (now second)) (m .states) (mask (m .initial)) (mask (m .finals)) (now b) (now w) (s .count) k 0 (mask (s .pivots)) (mask (s .used)) × (k < s .count) × (mask x ≡ cell stride (now b) 1 k) × (m .letters ≡ 2) ⌝ }
-    ensures { λ r. ⌜ Hunted stride (m .letters) (besideOf (now (first .entry)) (now (second .entry))) (m .states) (mask (m .initial)) (mask (m .finals)) (now (b .exit)) (now (w .exit)) (s .count) (k + 1) 0 r ⌝ }
+    requires { ⌜ Paired (now first) (now second) m × HuntingIn stride (now first) (now second) m (now b) (now w) s k 0 × (k < s .count) × (mask x ≡ cell stride (now b) 1 k) × (m .letters ≡ 2) ⌝ }
+    ensures { λ r. ⌜ HuntedIn stride (now (first .entry)) (now (second .entry)) m (now (b .exit)) (now (w .exit)) (s .count) (k + 1) 0 r ⌝ }
 {
     let p = pair_products::times_two_both(first, second, x);
     let y = p.first;
@@ -136,8 +136,8 @@ fn try_row(
     s: Size,
     k: usize,
 ) -> Hunt
-    requires { ⌜ Paired (now first) (now second) m × Hunting stride (m .letters) (besideOf (now first) (now second)) (m .states) (mask (m .initial)) (mask (m .finals)) (now b) (now w) (s .count) k 0 (mask (s .pivots)) (mask (s .used)) × (k < s .count) ⌝ }
-    ensures { λ r. ⌜ Hunted stride (m .letters) (besideOf (now (first .entry)) (now (second .entry))) (m .states) (mask (m .initial)) (mask (m .finals)) (now (b .exit)) (now (w .exit)) (s .count) (k + 1) 0 r ⌝ }
+    requires { ⌜ Paired (now first) (now second) m × HuntingIn stride (now first) (now second) m (now b) (now w) s k 0 × (k < s .count) ⌝ }
+    ensures { λ r. ⌜ HuntedIn stride (now (first .entry)) (now (second .entry)) m (now (b .exit)) (now (w .exit)) (s .count) (k + 1) 0 r ⌝ }
 {
     let x = basis::get(b, stride, 1, k);
     if m.letters == 2 {
@@ -159,8 +159,8 @@ fn try_rows(
     w: &mut Trail,
     s: Size,
 ) -> Hunt
-    requires { ⌜ Paired (now first) (now second) m × Hunting stride (m .letters) (besideOf (now first) (now second)) (m .states) (mask (m .initial)) (mask (m .finals)) (now b) (now w) (s .count) 0 0 (mask (s .pivots)) (mask (s .used)) ⌝ }
-    ensures { λ r. ⌜ Ended stride (m .letters) (besideOf (now (first .entry)) (now (second .entry))) (m .states) (mask (m .initial)) (mask (m .finals)) (now (b .exit)) (now (w .exit)) r ⌝ }
+    requires { ⌜ Paired (now first) (now second) m × HuntingIn stride (now first) (now second) m (now b) (now w) s 0 0 ⌝ }
+    ensures { λ r. ⌜ EndedIn stride (now (first .entry)) (now (second .entry)) m (now (b .exit)) (now (w .exit)) r ⌝ }
 {
     let mut r = s;
     let mut k: usize = 0;
@@ -185,7 +185,7 @@ pub fn first_accepted(
     w: &mut Trail,
 ) -> Hunt
     requires { ⌜ Paired (now first) (now second) m × (m .states ≤ stride) × Room stride (now b) × (length (now w) ≡ trailSize) × (shared (m .states) (mask (m .initial)) (mask (m .finals)) ≡ false) ⌝ }
-    ensures { λ r. ⌜ Ended stride (m .letters) (besideOf (now (first .entry)) (now (second .entry))) (m .states) (mask (m .initial)) (mask (m .finals)) (now (b .exit)) (now (w .exit)) r ⌝ }
+    ensures { λ r. ⌜ EndedIn stride (now (first .entry)) (now (second .entry)) m (now (b .exit)) (now (w .exit)) r ⌝ }
 {
     let a = m.letters;
     if a == 1 {

@@ -67,7 +67,7 @@ returns-3 c =
 first-longer-requires : tie.Need-first-longer-requires
 first-longer-requires c κs =
     let s = c .before .before .before .before .before .before .before .before .before .before .before .before in
-    (c .before .before .before .before .before .before .before .before .before .paired .ensures, s .pre .3, sym (told (c .before .before .before .before .before .before)) ∙ c .before .before .before .before .before .if1 .left, c .before .before .before .before .before .before .before .field-at .ensures)
+    record { paired = c .before .before .before .before .before .before .before .before .before .paired .ensures; trail = s .pre .3; empty = sym (told (c .before .before .before .before .before .before)) ∙ c .before .before .before .before .before .if1 .left; column = c .before .before .before .before .before .before .before .field-at .ensures }
 
 returns-4 : tie.Need-returns-4
 returns-4 c = search needs

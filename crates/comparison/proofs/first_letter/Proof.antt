@@ -29,14 +29,14 @@ abbrev μ-loop : tie.MeasureT-loop
 μ-loop first second g w₀ a i f l₀ w l = a - l
 
 loop-holds : tie.Need-loop-holds Inv-loop μ-loop
-loop-holds c = (omega arith, c .before .before .before .before .pre .2, λ x h. absurd (not-suc-le-zero h))
+loop-holds c = (omega arith, c .before .before .before .before .pre .1 .trail, λ x h. absurd (not-suc-le-zero h))
 
 times-pair-requires : tie.Need-times-pair-requires Inv-loop μ-loop
 times-pair-requires c κs =
     let s = c .before .before .before .before .before .before in
     let a = s .args in
-    let P = s .pre .0 in
-    (P .first, P .second, sym (P .same), omega (arith, P .letters, c .loop-test .taken), row-start (now (a .first)) (now (a .second)) (a .m) (s .pre .0) .below)
+    let P = s .pre .1 .paired in
+    (P .first, P .second, sym (P .same), omega (arith, P .letters, c .loop-test .taken), row-start (now (a .first)) (now (a .second)) (a .m) (s .pre .1 .paired) .below)
 
 parity-requires : tie.Need-parity-requires Inv-loop μ-loop
 parity-requires c κs = tt
@@ -45,7 +45,7 @@ link-requires : tie.Need-link-requires Inv-loop μ-loop
 link-requires c κs =
     let s = c .before .before .before .before .before .before .before .before .before .before in
     let a = s .args in
-    (omega arith, omega arith, omega (arith, c .before .before .before .before .loop-test .taken, paired-sizes (now (a .first)) (now (a .second)) (a .m) (s .pre .0) .2))
+    (omega arith, omega arith, omega (arith, c .before .before .before .before .loop-test .taken, paired-sizes (now (a .first)) (now (a .second)) (a .m) (s .pre .1 .paired) .2))
 
 parity-requires-2 : tie.Need-parity-requires-2 Inv-loop μ-loop
 parity-requires-2 c κs = tt
@@ -57,7 +57,7 @@ tried c =
     let a = s .args in
     let v = c .before .before .before .loop in
     let q = c .before .times-pair in
-    c .parity .ensures (a .m .states) (row-below (now (a .first)) (now (a .second)) (a .m) (s .pre .0) (v .l ∷ []) (mask (q .result)) (letter-row (now (a .first)) (now (a .second)) (a .m) (s .pre .0) (s .pre .3) (v .l) (mask (q .result)) (c .before .before .loop-test .taken) (q .ensures)))
+    c .parity .ensures (a .m .states) (row-below (now (a .first)) (now (a .second)) (a .m) (s .pre .1 .paired) (v .l ∷ []) (mask (q .result)) (letter-row (now (a .first)) (now (a .second)) (a .m) (s .pre .1 .paired) (s .pre .1 .empty) (v .l) (mask (q .result)) (c .before .before .loop-test .taken) (q .ensures)))
 
 returns : tie.Need-returns Inv-loop μ-loop
 returns c =
@@ -65,14 +65,14 @@ returns c =
     let a = s .args in
     let v = c .before .before .before .before .before .before .before .loop in
     let q = c .before .before .before .before .before .times-pair in
-    letter-found (now (a .first)) (now (a .second)) (a .m) (s .pre .0) (s .pre .3) (v .l) (mask (q .result)) (c .before .before .before .before .before .before .loop-test .taken) (q .ensures) (v .w) (c .before .link .last .0) (v .inv .1) (c .before .link .ensures)
-    (c .parity2 .result) (side-told (now (a .first)) (s .pre .0 .first) (mask (a .g)) (mask (q .result)) (c .parity2 .result) (s .pre .4) (c .parity2 .ensures)) (sym (tried (c .before .before .before .before)) ∙ c .before .before .before .if1 .taken) (v .inv .2)
+    letter-found (now (a .first)) (now (a .second)) (a .m) (s .pre .1 .paired) (s .pre .1 .empty) (v .l) (mask (q .result)) (c .before .before .before .before .before .before .loop-test .taken) (q .ensures) (v .w) (c .before .link .last .0) (v .inv .1) (c .before .link .ensures)
+    (c .parity2 .result) (side-told (now (a .first)) (s .pre .1 .paired .first) (mask (a .g)) (mask (q .result)) (c .parity2 .result) (s .pre .1 .column) (c .parity2 .ensures)) (sym (tried (c .before .before .before .before)) ∙ c .before .before .before .if1 .taken) (v .inv .2)
 
 add-l : tie.Need-add-l Inv-loop μ-loop
 add-l c =
     let s = c .before .before .before .before .before .before .before .before .before in
     let a = s .args in
-    omega (arith, c .before .before .before .loop-test .taken, paired-sizes (now (a .first)) (now (a .second)) (a .m) (s .pre .0) .2)
+    omega (arith, c .before .before .before .loop-test .taken, paired-sizes (now (a .first)) (now (a .second)) (a .m) (s .pre .1 .paired) .2)
 
 loop-less : tie.Need-loop-less Inv-loop μ-loop
 loop-less c = omega (arith, c .before .before .before .loop-test .taken)
@@ -85,7 +85,7 @@ loop-again c =
     let q = c .before .before .times-pair in (
       omega (arith, c .before .before .before .loop-test .taken),
       v .inv .1,
-      rw add-one (up-to {Q = λ x. accepts (automatonOf (now (a .first))) (x ∷ []) ⊕ accepts (automatonOf (now (a .second))) (x ∷ []) ≡ false} (v .l) (v .inv .2) (letter-tried (now (a .first)) (now (a .second)) (a .m) (s .pre .0) (s .pre .3) (v .l) (mask (q .result)) (c .before .before .before .loop-test .taken) (q .ensures) (sym (tried (c .before)) ∙ c .if1 .left))),
+      rw add-one (up-to {Q = λ x. accepts (automatonOf (now (a .first))) (x ∷ []) ⊕ accepts (automatonOf (now (a .second))) (x ∷ []) ≡ false} (v .l) (v .inv .2) (letter-tried (now (a .first)) (now (a .second)) (a .m) (s .pre .1 .paired) (s .pre .1 .empty) (v .l) (mask (q .result)) (c .before .before .before .loop-test .taken) (q .ensures) (sym (tried (c .before)) ∙ c .if1 .left))),
     )
 
 returns-2 : tie.Need-returns-2 Inv-loop μ-loop
@@ -93,7 +93,7 @@ returns-2 c =
     let s = c .before .before .before .before .before .before in
     let a = s .args in
     let v = c .before .loop in
-    letters-end (now (a .first)) (now (a .second)) (a .m) (s .pre .0) (s .pre .3) (s .pre .1) (λ x h. v .inv .2 x (omega (arith, c .loop-test .left)))
+    letters-end (now (a .first)) (now (a .second)) (a .m) (s .pre .1 .paired) (s .pre .1 .empty) (s .pre .0) (λ x h. v .inv .2 x (omega (arith, c .loop-test .left)))
 
 pub first-letter-spec : {M : Type 1} → statement M
 first-letter-spec =

@@ -24,7 +24,7 @@ loop-holds : tie.Need-loop-holds Inv-loop μ-loop
 loop-holds c =
     let s = c .before .before .before .before in
     let a = s .args in
-    (omega arith, powers-start (now (a .first)) (now (a .second)) (a .m) (s .pre .0) (a .w .now) (s .pre .2) (s .pre .3))
+    (omega arith, powers-start (now (a .first)) (now (a .second)) (a .m) (s .pre .1 .paired) (a .w .now) (s .pre .1 .trail) (s .pre .1 .empty))
 
 add-loop : tie.Need-add-loop Inv-loop μ-loop
 add-loop c = omega (arith, c .loop .inv .0)
@@ -32,8 +32,8 @@ add-loop c = omega (arith, c .loop .inv .0)
 times-pair-requires : tie.Need-times-pair-requires Inv-loop μ-loop
 times-pair-requires c κs =
     let s = c .before .before .before .before .before .before in
-    let P = s .pre .0 in
-    (P .first, P .second, sym (P .same), omega (arith, P .letters, s .pre .1), c .before .loop .inv .1 .row .below)
+    let P = s .pre .1 .paired in
+    (P .first, P .second, sym (P .same), omega (arith, P .letters, s .pre .0), c .before .loop .inv .1 .row .below)
 
 add-link : tie.Need-add-link Inv-loop μ-loop
 add-link c = omega (arith, c .before .before .before .loop .inv .0)
@@ -42,7 +42,7 @@ link-requires : tie.Need-link-requires Inv-loop μ-loop
 link-requires c κs =
     let s = c .before .before .before .before .before .before .before .before in
     let a = s .args in
-    let z = paired-sizes (now (a .first)) (now (a .second)) (a .m) (s .pre .0) .1 in
+    let z = paired-sizes (now (a .first)) (now (a .second)) (a .m) (s .pre .1 .paired) .1 in
     (omega (arith, c .before .before .loop-test .taken), c .before .before .before .loop .inv .0, omega arith)
 
 parity-requires : tie.Need-parity-requires Inv-loop μ-loop
@@ -61,7 +61,7 @@ tried c =
     let a = s .args in
     let v = c .before .before .before .before .before .loop in
     let q = c .before .before .before .times-pair in
-    c .parity .ensures (a .m .states) (row-below (now (a .first)) (now (a .second)) (a .m) (s .pre .0) (power (suc (v .k))) (mask (q .result)) (powers-row (now (a .first)) (now (a .second)) (a .m) (s .pre .0) (s .pre .1) (v .w) (v .k) (mask (v .y)) (v .inv .1) (omega (arith, c .before .before .before .before .loop-test .taken)) (mask (q .result)) (q .ensures) (c .before .link .last .0) (c .before .link .ensures)))
+    c .parity .ensures (a .m .states) (row-below (now (a .first)) (now (a .second)) (a .m) (s .pre .1 .paired) (power (suc (v .k))) (mask (q .result)) (powers-row (now (a .first)) (now (a .second)) (a .m) (s .pre .1 .paired) (s .pre .0) (v .w) (v .k) (mask (v .y)) (v .inv .1) (omega (arith, c .before .before .before .before .loop-test .taken)) (mask (q .result)) (q .ensures) (c .before .link .last .0) (c .before .link .ensures)))
 
 returns : tie.Need-returns Inv-loop μ-loop
 returns c =
@@ -70,8 +70,8 @@ returns c =
     let v = c .before .before .before .before .before .before .before .loop in
     let q = c .before .before .before .before .before .times-pair in
     let l = c .before .before .before .link in
-    powers-found (now (a .first)) (now (a .second)) (a .m) (s .pre .0) (s .pre .1) (v .w) (v .k) (mask (v .y)) (v .inv .1) (omega (arith, c .before .before .before .before .before .before .loop-test .taken)) (mask (q .result)) (q .ensures) (l .last .0) (l .ensures)
-    (c .parity2 .result) (side-told (now (a .first)) (s .pre .0 .first) (mask (a .g)) (mask (q .result)) (c .parity2 .result) (s .pre .4) (c .parity2 .ensures)) (sym (tried (c .before .before)) ∙ c .before .if1 .taken)
+    powers-found (now (a .first)) (now (a .second)) (a .m) (s .pre .1 .paired) (s .pre .0) (v .w) (v .k) (mask (v .y)) (v .inv .1) (omega (arith, c .before .before .before .before .before .before .loop-test .taken)) (mask (q .result)) (q .ensures) (l .last .0) (l .ensures)
+    (c .parity2 .result) (side-told (now (a .first)) (s .pre .1 .paired .first) (mask (a .g)) (mask (q .result)) (c .parity2 .result) (s .pre .1 .column) (c .parity2 .ensures)) (sym (tried (c .before .before)) ∙ c .before .if1 .taken)
 
 xor-requires : tie.Need-xor-requires Inv-loop μ-loop
 xor-requires c κs = tt
@@ -86,7 +86,7 @@ returns-2 c =
     let v = c .before .before .before .before .before .before .before .before .before .loop in
     let q = c .before .before .before .before .before .before .before .times-pair in
     let l = c .before .before .before .before .before .link in
-    powers-again (now (a .first)) (now (a .second)) (a .m) (s .pre .0) (s .pre .1) (v .w) (v .k) (mask (v .y)) (v .inv .1) (omega (arith, c .before .before .before .before .before .before .before .before .loop-test .taken)) (mask (q .result)) (q .ensures) (l .last .0) (l .ensures)
+    powers-again (now (a .first)) (now (a .second)) (a .m) (s .pre .1 .paired) (s .pre .0) (v .w) (v .k) (mask (v .y)) (v .inv .1) (omega (arith, c .before .before .before .before .before .before .before .before .loop-test .taken)) (mask (q .result)) (q .ensures) (l .last .0) (l .ensures)
     (sym (c .before .before .xor .ensures) ∙ eqb-true (mask (c .before .before .xor .result)) 0 (sym (c .before .is-none .ensures) ∙ c .if2 .taken))
 
 add-k : tie.Need-add-k Inv-loop μ-loop
@@ -102,9 +102,9 @@ loop-again c =
     let v = c .before .before .before .before .before .before .before .before .before .loop in
     let q = c .before .before .before .before .before .before .before .times-pair in
     let l = c .before .before .before .before .before .link in
-    let z = paired-sizes (now (a .first)) (now (a .second)) (a .m) (s .pre .0) .1 in (
+    let z = paired-sizes (now (a .first)) (now (a .second)) (a .m) (s .pre .1 .paired) .1 in (
       omega (arith, c .before .before .before .before .before .before .before .before .loop-test .taken),
-      powers-next (now (a .first)) (now (a .second)) (a .m) (s .pre .0) (s .pre .1) (v .w) (v .k) (mask (v .y)) (v .inv .1) (omega (arith, c .before .before .before .before .before .before .before .before .loop-test .taken)) (mask (q .result)) (q .ensures) (l .last .0) (l .ensures) (sym (tried (c .before .before .before .before)) ∙ c .before .before .before .if1 .left),
+      powers-next (now (a .first)) (now (a .second)) (a .m) (s .pre .1 .paired) (s .pre .0) (v .w) (v .k) (mask (v .y)) (v .inv .1) (omega (arith, c .before .before .before .before .before .before .before .before .loop-test .taken)) (mask (q .result)) (q .ensures) (l .last .0) (l .ensures) (sym (tried (c .before .before .before .before)) ∙ c .before .before .before .if1 .left),
     )
 
 returns-3 : tie.Need-returns-3 Inv-loop μ-loop
@@ -112,7 +112,7 @@ returns-3 c =
     let s = c .before .before .before .before .before .before in
     let a = s .args in
     let v = c .before .loop in
-    powers-end (now (a .first)) (now (a .second)) (a .m) (s .pre .0) (s .pre .1) (v .w) (v .k) (mask (v .y)) (omega (arith, c .loop-test .left)) (v .inv .1)
+    powers-end (now (a .first)) (now (a .second)) (a .m) (s .pre .1 .paired) (s .pre .0) (v .w) (v .k) (mask (v .y)) (omega (arith, c .loop-test .left)) (v .inv .1)
 
 pub first-power-spec : {M : Type 1} → statement M
 first-power-spec =

@@ -15,7 +15,7 @@ use Rattle.comparison.proofs.first_row.Statement.{statement}
 use Rattle.comparison.proofs.first_row.Tie as tie
 
 first-accepted-requires : tie.Need-first-accepted-requires
-first-accepted-requires c κs = let s = c .before .before .before .before .before in (s .pre .0, s .pre .4, s .pre .5, s .pre .1, s .pre .2)
+first-accepted-requires c κs = let s = c .before .before .before .before .before in (s .pre .2 .paired, s .pre .0, s .pre .1, s .pre .2 .trail, s .pre .2 .empty)
 
 enum-known-found : tie.Need-enum-known-found
 enum-known-found c = search needs
@@ -32,7 +32,7 @@ returns c =
     let a = s .args in
     let f = c .before .before .before .before .first-accepted in
     let z = c .enum-told .given .0 .0 in
-    judged-same (now (a .first)) (now (a .second)) (a .m) (s .pre .0) (a .stride) (f .last .1 .1 .1 .0) (f .last .1 .1 .1 .1 .1 .0) (z .count) (mask (z .pivots)) (mask (z .used)) (rw (c .enum-told .given .1) at (f .ensures))
+    judged-same (now (a .first)) (now (a .second)) (a .m) (s .pre .2 .paired) (a .stride) (f .last .1 .1 .1 .0) (f .last .1 .1 .1 .1 .1 .0) (z .count) (mask (z .pivots)) (mask (z .used)) (rw (c .enum-told .given .1) at (f .ensures))
 
 -- The row found is one of as many rows as there are states.
 found-below : (c : tie.After-found) → c .found .given .0 .0 < c .before .before .before .before .before .before .before .before .before .before .args .m .states
@@ -45,7 +45,7 @@ found-below c =
 get-requires : tie.Need-get-requires
 get-requires c κs =
     let s = c .before .before .before .before .before .before .before .before .before .before .before .before in
-    (search needs, omega arith, omega (arith, found-below (c .before .before), s .pre .4))
+    (search needs, omega arith, omega (arith, found-below (c .before .before), s .pre .0))
 
 parity-requires : tie.Need-parity-requires
 parity-requires c κs = search needs
@@ -59,8 +59,8 @@ returns-2 c =
     let a = s .args in
     let bs = now (a .first) in
     let f = c .before .before .before .before .before .before .before .before .first-accepted in
-    judged-differs bs (now (a .second)) (a .m) (s .pre .0) (a .stride) (f .last .1 .1 .1 .0) (f .last .1 .1 .1 .1 .1 .0) (c .before .before .before .before .found .given .0 .0) (c .parity .result)
-    (side-told bs (s .pre .0 .first) (mask (a .g)) (mask (c .before .get .result)) (c .parity .result) (s .pre .3) (c .parity .ensures) ∙ ap (shared (statesOf bs) (number rowBytes bs finalAt)) (c .before .get .ensures))
+    judged-differs bs (now (a .second)) (a .m) (s .pre .2 .paired) (a .stride) (f .last .1 .1 .1 .0) (f .last .1 .1 .1 .1 .1 .0) (c .before .before .before .before .found .given .0 .0) (c .parity .result)
+    (side-told bs (s .pre .2 .paired .first) (mask (a .g)) (mask (c .before .get .result)) (c .parity .result) (s .pre .2 .column) (c .parity .ensures) ∙ ap (shared (statesOf bs) (number rowBytes bs finalAt)) (c .before .get .ensures))
     (rw (c .before .before .before .before .found .given .1) at (f .ensures))
 
 pub first-row-spec : {M : Type 1} → statement M

@@ -13,7 +13,7 @@ first-row-requires : tie.Need-first-row-requires
 first-row-requires c κs =
     let s = c .before .before .before .before in
     let a = s .args in
-    (s .pre .0, s .pre .1, s .pre .2, s .pre .3, paired-sizes (now (a .first)) (now (a .second)) (a .m) (s .pre .0) .1, search needs)
+    (paired-sizes (now (a .first)) (now (a .second)) (a .m) (s .pre .paired) .1, search needs, search needs)
 
 returns : tie.Need-returns
 returns c = search needs
