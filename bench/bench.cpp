@@ -156,14 +156,16 @@ static void time_deterministic(int n, int a, double budget) {
 
 static void time_worst(double budget) {
     std::vector<Bytes> thick;
-    std::vector<Pair> nothing;
+    std::vector<Pair> nothing, none_final;
     for (int i = 0; i < INPUTS; i++) {
         thick.push_back(record_of(dense(32, 8, 0.9)));
         nothing.push_back({record_of(no_final(dense(32, 8))), record_of(final_out_of_reach(dense(32, 8)))});
+        none_final.push_back({record_of(no_final(dense(32, 8))), record_of(no_final(dense(32, 8)))});
     }
     time_check("n=32 a=8", thick, budget);
     time_minimal("density 0.9 n=32 a=8", thick, budget);
     time_compare("of two empty languages n=32 a=8", nothing, budget);
+    time_compare("of two without final states n=32 a=8", none_final, budget);
     for (int a : {1, 8}) {
         Bytes m = record_of(only(31, a));
         time_minimal("only 0^31 a=" + std::to_string(a), {m}, budget);
