@@ -162,7 +162,7 @@ fn first_longer(first: &[u8], second: &[u8], m: Machine, g: Row, w: &mut Trail) 
         return search_some(first, second, m, g, w);
     }
     if m.letters == 1 {
-        if m.states <= 4 {
+        if m.states <= 6 {
             return first_power(first, second, m, g, w);
         }
     }
