@@ -11,8 +11,8 @@ ghost use Rattle.record.specs.Record.{lettersOf, WellFormed, automatonOf, langu
 ghost use Rattle.record.specs.Outcome.{bufferOf};
 ghost use Rattle.operands.specs.Operands.{pairOf};
 ghost use Rattle.compare.specs.Compare.{differenceOf, compareOutcome, sideOf, acceptorOf, refusedAs, comparedAs};
-use comparison::Verdict;
 use operands::Pair;
+use verdict::Verdict;
 
 // Which of two records accepts a word.
 pub enum Side {

@@ -1,10 +1,10 @@
 -- Two records of at most two states together: a word of at most one letter tells their languages apart, if any does.
-use mathlib.Core.Path.{_≡_, sym, ap, ap₂, subst, _∙_}
+use mathlib.Core.Path.{_≡_, sym, ap, subst, _∙_}
 use mathlib.Core.Bool.{Bool, true, false}
 use mathlib.Core.List.{List, [], _∷_, _++_}
 use mathlib.Core.Logic.{inl, inr}
 use mathlib.Core.Option.{none, some}
-use Prim.Native.Nat.{ℕ, suc, _+_, _<_, _≤_}
+use Prim.Native.Nat.{ℕ, _+_, _<_, _≤_}
 use native.Mathlib.Omega.{arith}
 use lib.ListN.{length}
 use Rattle.automata.specs.Xor.{_⊕_}
@@ -12,7 +12,6 @@ use Rattle.automata.specs.Automaton.{Automaton, accepts}
 use Rattle.automata.specs.Word.{Over, Shortlex}
 use Rattle.automata.specs.FirstDifference.{firstDifference}
 use Rattle.automata.proofs.Xor.{xor-zero}
-use Rattle.automata.proofs.Shortlex.{shortlex-nil}
 use Rattle.automata.proofs.ShortWords.{same-by-short}
 use Rattle.automata.proofs.FirstDifference.{none-difference, some-difference}
 use Rattle.rows.specs.declared.Machine.{Machine}
@@ -26,8 +25,9 @@ use Rattle.record.specs.Record.{rowBytes, finalAt, statesOf, lettersOf, automat
 use Rattle.hunt.specs.Both.{besideOf, Paired}
 use Rattle.hunt.specs.Hunt.{shared}
 use Rattle.hunt.proofs.BothLaws.{paired-sizes}
-use Rattle.comparison.specs.Judged.{Found}
-use Rattle.comparison.proofs.RowLaws.{RowOf, row-start, row-next, row-differs, row-first}
+use Rattle.verdict.specs.Judged.{Found}
+use Rattle.verdict.specs.Rows.{RowOf}
+use Rattle.verdict.proofs.RowLaws.{row-start, row-next, row-differs, row-first}
 
 -- ---- the trail of one letter
 

@@ -5,39 +5,13 @@ ghost use lib.ListN.{length};
 ghost use Rattle.basis.specs.Basis.{Room};
 ghost use Rattle.trail.specs.Trail.{trailSize};
 ghost use Rattle.record.specs.Record.{lettersOf, WellFormed};
-ghost use Rattle.hunt.specs.Both.{Paired};
-ghost use Rattle.comparison.specs.Judged.{JudgedOf, Undecided};
+ghost use Rattle.verdict.specs.Judged.{JudgedOf, Undecided};
 use hunt::Hunt;
 use record::FINAL_AT;
-use record::INITIAL_AT;
 use rows::Machine;
 use rows::Row;
 use trail::Trail;
-
-// The sizes, the initial row and the final column of two records side by side.
-fn paired(first: &[u8], second: &[u8]) -> Machine
-    requires { ⌜ WellFormed (now first) × WellFormed (now second) × (lettersOf (now first) ≡ lettersOf (now second)) ⌝ }
-    ensures { λ m. ⌜ Paired (now (first .entry)) (now (second .entry)) m ⌝ }
-{
-    let n = record::size(first[5]);
-    let k = record::size(second[5]);
-    let i = rows::moved(record::field_at(second, INITIAL_AT), n);
-    let f = rows::moved(record::field_at(second, FINAL_AT), n);
-    let initial = rows::xor(record::field_at(first, INITIAL_AT), i);
-    let finals = rows::xor(record::field_at(first, FINAL_AT), f);
-    Machine {
-        states: n + k,
-        letters: record::size(first[6]),
-        initial: initial,
-        finals: finals,
-    }
-}
-
-// What a comparison finds: the same words, or the row whose word is the first that just one accepts, and whether the first does.
-pub enum Verdict {
-    Same,
-    Differs { row: usize, first: bool },
-}
+use verdict::Verdict;
 
 // How many states of both records together are few, or some more: the strides of the bases for them. What is to be cleared is then in
 // proportion to the work.
@@ -64,34 +38,6 @@ fn first_letter(first: &[u8], second: &[u8], m: Machine, g: Row, w: &mut Trail) 
             };
         }
         l += 1;
-    }
-    Verdict::Same
-}
-
-// Over one letter there is one word of each length, and one of fewer letters than both have states tells two languages apart, if any does.
-// So the row of each is tried in turn, and no basis is needed; where the initial row comes again, all that follows was tried before.
-fn first_power(first: &[u8], second: &[u8], m: Machine, g: Row, w: &mut Trail) -> Verdict
-    requires { ⌜ (m .letters ≡ 1) × Undecided (now first) (now second) m g (now w) ⌝ }
-    ensures { λ r. ⌜ JudgedOf (now (first .entry)) (now (second .entry)) (now (w .exit)) r ⌝ }
-{
-    let n = m.states;
-    let i = m.initial;
-    let f = m.finals;
-    let mut y = i;
-    let mut k: usize = 0;
-    while k + 1 < n {
-        y = pair_products::times_pair(first, second, 0, y);
-        trail::link(w, k + 1, k, 0);
-        if rows::parity(y, f) {
-            return Verdict::Differs {
-                row: k + 1,
-                first: rows::parity(g, y),
-            };
-        }
-        if rows::is_none(rows::xor(y, i)) {
-            return Verdict::Same;
-        }
-        k += 1;
     }
     Verdict::Same
 }
@@ -155,16 +101,14 @@ fn first_longer(first: &[u8], second: &[u8], m: Machine, g: Row, w: &mut Trail) 
     if m.states <= 2 {
         return first_letter(first, second, m, g, w);
     }
+    if m.letters == 1 {
+        return unary::first_power(first, second, m, g, w);
+    }
     if SOME < m.states {
         return search_many(first, second, m, g, w);
     }
     if FEW < m.states {
         return search_some(first, second, m, g, w);
-    }
-    if m.letters == 1 {
-        if m.states <= 6 {
-            return first_power(first, second, m, g, w);
-        }
     }
     search_few(first, second, m, g, w)
 }
@@ -174,7 +118,7 @@ pub fn compare(first: &[u8], second: &[u8], w: &mut Trail) -> Verdict
     requires { ⌜ WellFormed (now first) × WellFormed (now second) × (lettersOf (now first) ≡ lettersOf (now second)) × (length (now w) ≡ trailSize) ⌝ }
     ensures { λ r. ⌜ JudgedOf (now (first .entry)) (now (second .entry)) (now (w .exit)) r ⌝ }
 {
-    let m = paired(first, second);
+    let m = verdict::paired(first, second);
     let i = m.initial;
     let g = record::field_at(first, FINAL_AT);
     // Nothing is cleared for a pair that the empty word tells apart.

@@ -6,7 +6,7 @@ ghost use Prim.Native.Nat.{ℕ, _+_, _^_, _≤_, _<_};
 ghost use lib.Bits.{bitXor, bitOr};
 ghost use Rattle.automata.specs.Mask.{bitOf};
 ghost use Rattle.rows.specs.Row.{width, mask};
-ghost use Rattle.basis.specs.Basis.{parts, cell, bits, Room};
+ghost use Rattle.basis.specs.Basis.{parts, bits, Room};
 ghost use Rattle.elimination.specs.Place.{Folded, Unused, Added, BasisIn, Covered, Placed};
 use rows::Row;
 
@@ -66,11 +66,10 @@ fn add(b: &mut [u64], stride: usize, n: usize, s: Size, q: usize, x: Row, y: Row
     }
 }
 
-// Row y of n bits is an xor of the rows found, and nothing changes; or it is one more of them. Block 2 stays.
+// Row y of n bits is an xor of the rows found, and nothing changes; or it is one more of them.
 pub fn insert(b: &mut [u64], stride: usize, n: usize, s: Size, y: Row) -> Size
     requires { ⌜ (n ≤ width) × (n ≤ stride) × Room stride (now b) × (mask y < 2 ^ n) × ((C : ℕ → ℕ → Bool) × BasisIn stride n (s .count) (mask (s .pivots)) C (now b)) × Covered stride (s .count) (mask (s .used)) (now b) ⌝ }
-    ensures placed { λ r. ⌜ ((C : ℕ → ℕ → Bool) → BasisIn stride n (s .count) (mask (s .pivots)) C (now (b .entry)) → (C′ : ℕ → ℕ → Bool) × (c : ℕ → Bool) × Placed stride n (s .count) (mask (s .pivots)) (mask (s .used)) (mask y) C C′ c (now (b .entry)) (now (b .exit)) (r .count) (mask (r .pivots)) (mask (r .used))) ⌝ }
-    ensures kept { λ _. ⌜ ((l i : ℕ) → 1 < l → i < stride → cell stride (now (b .exit)) l i ≡ cell stride (now (b .entry)) l i) ⌝ }
+    ensures { λ r. ⌜ ((C : ℕ → ℕ → Bool) → BasisIn stride n (s .count) (mask (s .pivots)) C (now (b .entry)) → (C′ : ℕ → ℕ → Bool) × (c : ℕ → Bool) × Placed stride n (s .count) (mask (s .pivots)) (mask (s .used)) (mask y) C C′ c (now (b .entry)) (now (b .exit)) (r .count) (mask (r .pivots)) (mask (r .used))) ⌝ }
 {
     let p = s.pivots;
     let z = rows::and(y, p);

@@ -23,7 +23,6 @@ use Rattle.elimination.specs.Place.{BasisIn, Old, New, Placed}
 use Rattle.reduction.specs.Tables.{SearchIn, accepted}
 use Rattle.reduction.proofs.SearchLaws.{search-next}
 use Rattle.reduction.proofs.TableSearch.{count-bound, empty-cover, placed-length, placed-cover, search-start, search-old-row, search-new-row}
-use Rattle.hunt.specs.Hunt.{Last}
 use Rattle.hunt.specs.Hunt.{shared, Hunting, Stopped}
 use Rattle.elimination.proofs.PlaceLaws.{if-same, if-other}
 
@@ -151,9 +150,6 @@ module _ (σ a : ℕ) (M : ℕ → ℕ → ℕ) (n i f : ℕ) (hn : n ≤ width)
 
     pub new-below : d < width
     new-below = omega (arith, new .room)
-
-    pub grown-new : Last σ d y d′ b′
-    grown-new h = (omega (arith, new .count), new .row-new)
 
     pub accepted-new : accepted σ n b′ f d ≡ shared n y f
     accepted-new = ap (λ x. shared n x f) (new .row-new)

@@ -4,20 +4,18 @@
 --   Hunting     no row found is accepted; the next pair is row k by letter l
 --   Stopped     row r is the first row found that is accepted
 --   Hunted      what a step of the search comes to, from d rows on
---   Last        if row k is found, it is the last of the d rows found, and x
---   Grown       a row that the step finds is its product y, and the last one
---   Started     the initial row i is placed in the empty basis; block 2 stays
+--   Started     the initial row i is placed in the empty basis
 -- HuntingIn, HuntedIn and EndedIn say Hunting, Hunted and Ended of two records side by side: m has their sizes, initial row and final column.
 use mathlib.Core.Path.{_≡_}
 use mathlib.Core.Bool.{Bool, true, false, _&&_}
 use mathlib.Core.List.{List}
-use Prim.Native.Nat.{ℕ, _+_, _<_, _≤_}
+use Prim.Native.Nat.{ℕ, _<_, _≤_}
 use lib.ListN.{length}
 use Rattle.automata.specs.Xor.{xorBelow}
 use Rattle.automata.specs.Mask.{bitOf}
 use Rattle.rows.specs.declared.Machine.{Machine}
 use Rattle.rows.specs.Row.{mask}
-use Rattle.basis.specs.Basis.{cell, Room}
+use Rattle.basis.specs.Basis.{Room}
 use Rattle.trail.specs.Trail.{trailSize, fromIn, byIn}
 use Rattle.elimination.specs.declared.Size.{Size}
 use Rattle.elimination.specs.Place.{Covered, Placed}
@@ -56,13 +54,6 @@ abbrev pub Hunted : ℕ → ℕ → (ℕ → ℕ → ℕ) → ℕ → ℕ → �
 Hunted σ a M n i f b w d k l (Going s) = Hunting σ a M n i f b w (s .count) k l (mask (s .pivots)) (mask (s .used)) × (d ≤ s .count)
 Hunted σ a M n i f b w d k l (Found r) = Stopped σ a M n i f b w r
 
-abbrev pub Last : ℕ → ℕ → ℕ → ℕ → List ℕ → Type 0
-Last σ k x d b = k < d → (d ≡ k + 1) × (cell σ b 1 k ≡ x)
-
-abbrev pub Grown : ℕ → ℕ → ℕ → List ℕ → Hunt → Type 0
-Grown σ d y b (Going s) = Last σ d y (s .count) b
-Grown σ d y b (Found r) = Unit
-
 -- Every pair is done, or the search stopped.
 abbrev pub Ended : ℕ → ℕ → (ℕ → ℕ → ℕ) → ℕ → ℕ → ℕ → List ℕ → List ℕ → Hunt → Type 0
 Ended σ a M n i f b w (Going s) = Hunting σ a M n i f b w (s .count) (s .count) 0 (mask (s .pivots)) (mask (s .used))
@@ -73,7 +64,6 @@ pub record Started (σ n i : ℕ) (b b′ : List ℕ) (d p v : ℕ) : Type 0 whe
   pub coef′ : ℕ → ℕ → Bool
   pub made : ℕ → Bool
   pub placed : Placed σ n 0 0 0 i coef coef′ made b b′ d p v
-  pub kept : (j : ℕ) → j < σ → cell σ b′ 2 j ≡ cell σ b 2 j
 
 abbrev pub HuntingIn : ℕ → List ℕ → List ℕ → Machine → List ℕ → List ℕ → Size → ℕ → ℕ → Type 0
 HuntingIn σ bs cs m b w s k l = Hunting σ (m .letters) (besideOf bs cs) (m .states) (mask (m .initial)) (mask (m .finals)) b w (s .count) k l (mask (s .pivots)) (mask (s .used))

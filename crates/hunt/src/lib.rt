@@ -1,11 +1,11 @@
 // The search for the first accepted row of two records side by side: what it has come to, where it starts, and its one step.
 ghost use mathlib.Core.Path.{_≡_};
-ghost use Prim.Native.Nat.{ℕ, _+_, _^_, _≤_, _<_};
+ghost use Prim.Native.Nat.{_+_, _^_, _≤_, _<_};
 ghost use Rattle.rows.specs.Row.{width, mask};
 ghost use Rattle.rows.specs.Product.{product};
 ghost use Rattle.basis.specs.Basis.{cell, Room};
 ghost use Rattle.hunt.specs.Both.{besideOf, Paired};
-ghost use Rattle.hunt.specs.Hunt.{Grown, Started, HuntingIn, HuntedIn};
+ghost use Rattle.hunt.specs.Hunt.{Started, HuntingIn, HuntedIn};
 use elimination::Size;
 use rows::Machine;
 use rows::Row;
@@ -31,7 +31,7 @@ pub fn try_pair(
     l: usize,
 ) -> Hunt
     requires { ⌜ Paired (now first) (now second) m × HuntingIn stride (now first) (now second) m (now b) (now w) s k l × (k < s .count) × (l < m .letters) × (mask y ≡ product (m .states) (cell stride (now b) 1 k) (besideOf (now first) (now second) l)) ⌝ }
-    ensures { λ r. ⌜ HuntedIn stride (now (first .entry)) (now (second .entry)) m (now (b .exit)) (now (w .exit)) (s .count) k (l + 1) r × (cell stride (now (b .exit)) 1 k ≡ cell stride (now (b .entry)) 1 k) × ((i : ℕ) → i < stride → cell stride (now (b .exit)) 2 i ≡ cell stride (now (b .entry)) 2 i) × Grown stride (s .count) (mask y) (now (b .exit)) r ⌝ }
+    ensures { λ r. ⌜ HuntedIn stride (now (first .entry)) (now (second .entry)) m (now (b .exit)) (now (w .exit)) (s .count) k (l + 1) r × (cell stride (now (b .exit)) 1 k ≡ cell stride (now (b .entry)) 1 k) ⌝ }
 {
     // Most products of a sparse machine have no bits, and are an xor of no rows.
     if rows::is_none(y) {

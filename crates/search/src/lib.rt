@@ -187,10 +187,6 @@ pub fn first_accepted(
     requires { ⌜ Paired (now first) (now second) m × (m .states ≤ stride) × Room stride (now b) × (length (now w) ≡ trailSize) × (shared (m .states) (mask (m .initial)) (mask (m .finals)) ≡ false) ⌝ }
     ensures { λ r. ⌜ EndedIn stride (now (first .entry)) (now (second .entry)) m (now (b .exit)) (now (w .exit)) r ⌝ }
 {
-    let a = m.letters;
-    if a == 1 {
-        return chain::first_along(first, second, m, b, stride, w);
-    }
     let s = hunt::start(b, stride, m);
     try_rows(first, second, m, b, stride, w, s)
 }

@@ -7,7 +7,7 @@ use denote.Ref.{now}
 use lib.ListN.{length, drop}
 use mathlib.Core.List.{_++_}
 use Rattle.trail.specs.Trail.{wordIn, Traced}
-use Rattle.comparison.specs.Judged.{Found}
+use Rattle.verdict.specs.Judged.{Found}
 use Rattle.record.specs.Record.{lettersOf, automatonOf}
 use Rattle.record.specs.Outcome.{bufferOf}
 use Rattle.record.proofs.Refusals.{good-check}

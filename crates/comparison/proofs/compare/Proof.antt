@@ -7,8 +7,7 @@ use Rattle.rows.specs.Row.{mask}
 use Rattle.record.proofs.Refusals.{good-check}
 use Rattle.hunt.specs.Hunt.{shared}
 use Rattle.hunt.proofs.BothLaws.{paired-initial}
-use Rattle.comparison.proofs.JudgeLaws.{side-told, judged-none, judged-empty}
-use Rattle.comparison.proofs.RowLaws.{judged-unaccepting}
+use Rattle.verdict.proofs.RowLaws.{side-told, judged-empty, none-initial, none-final}
 use borrow.Author.Needs.{needs}
 use Rattle.comparison.proofs.compare.Statement.{statement}
 use Rattle.comparison.proofs.compare.Tie as tie
@@ -48,11 +47,9 @@ is-none-requires c κs = search needs
 -- No state is initial.
 returns-2 : tie.Need-returns-2
 returns-2 c =
-    let s = c .before .before .before .before .before .before .before .before .before in
-    let a = s .args in
+    let a = c .before .before .before .before .before .before .before .before .before .args in
     let p = c .before .before .before .before .before .before .paired in
-    let z = eqb-true (mask (p .result .initial)) 0 (sym (c .before .is-none .ensures) ∙ c .if2 .taken) in
-    judged-none (now (a .first)) (now (a .second)) (p .result) (p .ensures) (a .w .now) (s .pre .3) (sym (told (c .before .before .before)) ∙ c .before .before .if1 .left) z
+    none-initial (now (a .first)) (now (a .second)) (p .result) (p .ensures) (eqb-true (mask (p .result .initial)) 0 (sym (c .before .is-none .ensures) ∙ c .if2 .taken))
 
 is-none-requires-2 : tie.Need-is-none-requires-2
 is-none-requires-2 c κs = search needs
@@ -62,7 +59,7 @@ returns-3 : tie.Need-returns-3
 returns-3 c =
     let a = c .before .before .before .before .before .before .before .before .before .before .before .args in
     let p = c .before .before .before .before .before .before .before .before .paired in
-    judged-unaccepting (now (a .first)) (now (a .second)) (p .result) (p .ensures) (eqb-true (mask (p .result .finals)) 0 (sym (c .before .is-none2 .ensures) ∙ c .if3 .taken))
+    none-final (now (a .first)) (now (a .second)) (p .result) (p .ensures) (eqb-true (mask (p .result .finals)) 0 (sym (c .before .is-none2 .ensures) ∙ c .if3 .taken))
 
 first-longer-requires : tie.Need-first-longer-requires
 first-longer-requires c κs =

@@ -2,7 +2,7 @@
 use mathlib.Core.Path.{_≡_, sym, _∙_}
 use mathlib.Core.Bool.{false}
 use mathlib.Core.List.{[], _∷_}
-use Prim.Native.Nat.{ℕ, _+_, _-_, _<_, _≤_}
+use Prim.Native.Nat.{ℕ, _-_, _<_, _≤_}
 use native.Mathlib.Nat.{not-suc-le-zero}
 use native.Mathlib.Numerals.{add-one}
 use native.Mathlib.Omega.{arith}
@@ -16,8 +16,7 @@ use Rattle.trail.specs.Trail.{trailSize}
 use Rattle.record.specs.Record.{automatonOf}
 use Rattle.hunt.specs.Hunt.{shared}
 use Rattle.hunt.proofs.BothLaws.{paired-sizes}
-use Rattle.comparison.proofs.JudgeLaws.{side-told}
-use Rattle.comparison.proofs.RowLaws.{row-start, row-below}
+use Rattle.verdict.proofs.RowLaws.{side-told, row-start, row-below}
 use Rattle.comparison.proofs.LetterLaws.{letter-row, letter-tried, letter-found, letters-end}
 use Rattle.comparison.proofs.first_letter.Statement.{statement}
 use Rattle.comparison.proofs.first_letter.Tie as tie

@@ -9,7 +9,8 @@ use Rattle.record.specs.Record.{rowBytes, finalAt, statesOf}
 use Rattle.hunt.specs.Both.{besideOf}
 use Rattle.hunt.specs.Hunt.{shared}
 use Rattle.hunt.proofs.HuntLaws.{stopped-bound}
-use Rattle.comparison.proofs.JudgeLaws.{side-told, judged-same, judged-differs}
+use Rattle.verdict.proofs.RowLaws.{side-told}
+use Rattle.comparison.proofs.JudgeLaws.{judged-same, judged-differs}
 use borrow.Author.Needs.{needs}
 use Rattle.comparison.proofs.first_row.Statement.{statement}
 use Rattle.comparison.proofs.first_row.Tie as tie

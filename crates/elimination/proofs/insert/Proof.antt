@@ -43,7 +43,7 @@ returns c =
     let v = mask (a .s .used) in
     let y = mask (a .y) in
     let t = a .b .now in
-    (λ C F. (C, onto n (bitOf p) C (bitOf y), inl (place-old (a .stride) n d p v y t C F (s .pre .3) (mask (c .before .before .before .before .before .and .result)) (c .before .before .before .before .before .and .ensures) (mask (c .before .before .before .times .result)) (c .before .before .before .times .ensures) (mask (c .before .before .xor .result)) (c .before .before .xor .ensures) (onto n (bitOf p) C (bitOf y)) (λ i. refl) (eqb-true (mask (c .before .before .xor .result)) 0 (sym (c .before .is-none .ensures) ∙ c .if1 .taken)))), λ l i h g. refl)
+    λ C F. (C, onto n (bitOf p) C (bitOf y), inl (place-old (a .stride) n d p v y t C F (s .pre .3) (mask (c .before .before .before .before .before .and .result)) (c .before .before .before .before .before .and .ensures) (mask (c .before .before .before .times .result)) (c .before .before .before .times .ensures) (mask (c .before .before .xor .result)) (c .before .before .xor .ensures) (onto n (bitOf p) C (bitOf y)) (λ i. refl) (eqb-true (mask (c .before .before .xor .result)) 0 (sym (c .before .is-none .ensures) ∙ c .if1 .taken))))
 
 lowest-requires : tie.Need-lowest-requires
 lowest-requires c κs =
@@ -81,13 +81,11 @@ returns-2 c =
     let y = mask (a .y) in
     let t = a .b .now in
     let q = c .before .before .before .before .lowest .result in
-    let A = c .before .before .add .ensures in (
-      λ C F.
-          let own : ℕ → Bool = ownOf n d (bitOf p) C (bitOf y) in
-          let new : ℕ → ℕ → Bool = coefOf (bits (a .stride) t 0) C own q in
-          (new, λ i. eqb i d, inr (rw (A .1, A .2, A .3) (place-new (a .stride) n d p v y t C F (s .pre .3) (mask (c .before .before .before .before .before .before .before .before .before .before .and .result)) (c .before .before .before .before .before .before .before .before .before .before .and .ensures) (mask (c .before .before .before .before .before .before .before .before .times .result)) (c .before .before .before .before .before .before .before .before .times .ensures) (mask (c .before .before .before .before .before .before .before .xor .result)) (c .before .before .before .before .before .before .before .xor .ensures) q (c .before .before .before .before .lowest .ensures .1) (s .pre .5) (s .pre .1) t (c .before .before .add .last .0) refl (λ l i h g. refl) (A .0) own (λ i. refl) new (λ j i h f g. if-other j q _ _ g) (λ i. if-same q _ _) (λ i. eqb i d) (λ i. refl)))),
-      A .0 .other,
-    )
+    let A = c .before .before .add .ensures in
+    λ C F.
+    let own : ℕ → Bool = ownOf n d (bitOf p) C (bitOf y) in
+    let new : ℕ → ℕ → Bool = coefOf (bits (a .stride) t 0) C own q in
+    (new, λ i. eqb i d, inr (rw (A .1, A .2, A .3) (place-new (a .stride) n d p v y t C F (s .pre .3) (mask (c .before .before .before .before .before .before .before .before .before .before .and .result)) (c .before .before .before .before .before .before .before .before .before .before .and .ensures) (mask (c .before .before .before .before .before .before .before .before .times .result)) (c .before .before .before .before .before .before .before .before .times .ensures) (mask (c .before .before .before .before .before .before .before .xor .result)) (c .before .before .before .before .before .before .before .xor .ensures) q (c .before .before .before .before .lowest .ensures .1) (s .pre .5) (s .pre .1) t (c .before .before .add .last .0) refl (λ l i h g. refl) (A .0) own (λ i. refl) new (λ j i h f g. if-other j q _ _ g) (λ i. if-same q _ _) (λ i. eqb i d) (λ i. refl))))
 
 pub insert-spec : {M : Type 1} → statement M
 insert-spec =

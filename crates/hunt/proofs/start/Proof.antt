@@ -2,7 +2,6 @@
 use mathlib.Core.Path.{sym, subst}
 use mathlib.Core.Bool.{Bool, false}
 use Prim.Native.Nat.{ℕ}
-use native.Mathlib.Omega.{arith}
 use Rattle.rows.specs.Row.{mask}
 use Rattle.elimination.specs.Place.{BasisIn}
 use Rattle.reduction.proofs.TableSearch.{empty-basis, empty-cover}
@@ -31,9 +30,9 @@ same-length c = search needs
 returns : tie.Need-returns
 returns c =
     let a = c .before .before .before .before .before .before .before .args in
-    let e = rw (c .before .before .before .before .before .none .ensures) at (c .before .before .insert .ensures .0) in
+    let e = rw (c .before .before .before .before .before .none .ensures) at (c .before .before .insert .ensures) in
     let P = e none-yet (empty-basis (a .stride) (a .m .states) none-yet (a .b .now)) in
-    record { coef = none-yet; coef′ = P .0; made = P .1; placed = P .2; kept = λ j h. c .before .before .insert .ensures .1 2 j (omega arith) h }
+    record { coef = none-yet; coef′ = P .0; made = P .1; placed = P .2 }
 
 pub start-spec : {M : Type 1} → statement M
 start-spec =

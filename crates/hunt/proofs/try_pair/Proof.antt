@@ -10,7 +10,7 @@ use Rattle.rows.proofs.ProductLaws.{product-lt}
 use Rattle.hunt.specs.Both.{besideOf}
 use Rattle.hunt.specs.Hunt.{shared}
 use Rattle.hunt.proofs.BothLaws.{paired-sizes, paired-rows}
-use Rattle.hunt.proofs.HuntLaws.{none-placed, row-kept, hunting-old, new-below, grown-new, hunting-new, stopped-new}
+use Rattle.hunt.proofs.HuntLaws.{none-placed, row-kept, hunting-old, new-below, hunting-new, stopped-new}
 use borrow.Author.Needs.{needs}
 use Rattle.hunt.proofs.try_pair.Statement.{statement}
 use Rattle.hunt.proofs.try_pair.Tie as tie
@@ -39,8 +39,6 @@ returns c =
     let z = eqb-true (mask (a .y)) 0 (sym (c .before .is-none .ensures) ∙ c .if1 .taken) in (
       hunting-old (a .stride) (m .letters) (besideOf bs cs) (m .states) (mask (m .initial)) (mask (m .finals)) hn (a .b .now) (a .w .now) (a .s .count) (a .k) (a .l) (mask (a .s .pivots)) (mask (a .s .used)) (s .pre .1) (s .pre .2) (s .pre .3) (mask (a .y)) (s .pre .4) (a .b .now) (a .s .count) (mask (a .s .pivots)) (mask (a .s .used)) (none-placed (a .stride) (m .states) (a .s .count) (mask (a .s .pivots)) (mask (a .s .used)) (mask (a .y)) (a .b .now) z) (omega arith),
       refl,
-      λ i h. refl,
-      λ h. absurd (omega arith),
     )
 
 insert-requires : tie.Need-insert-requires
@@ -63,10 +61,8 @@ returns-2 c =
     let hn = paired-sizes bs cs m (s .pre .0) .1 in
     let q = c .before .before .before .before .insert in
     let r = q .result in (
-      hunting-old (a .stride) (m .letters) (besideOf bs cs) (m .states) (mask (m .initial)) (mask (m .finals)) hn (a .b .now) (a .w .now) (a .s .count) (a .k) (a .l) (mask (a .s .pivots)) (mask (a .s .used)) (s .pre .1) (s .pre .2) (s .pre .3) (mask (a .y)) (s .pre .4) (q .last .0) (r .count) (mask (r .pivots)) (mask (r .used)) (q .ensures .0) (omega arith),
-      row-kept (a .stride) (m .letters) (besideOf bs cs) (m .states) (mask (m .initial)) (mask (m .finals)) hn (a .b .now) (a .w .now) (a .s .count) (a .k) (a .l) (mask (a .s .pivots)) (mask (a .s .used)) (s .pre .1) (s .pre .2) (s .pre .3) (mask (a .y)) (s .pre .4) (q .last .0) (r .count) (mask (r .pivots)) (mask (r .used)) (q .ensures .0) (a .k) (s .pre .2),
-      λ i h. q .ensures .1 2 i (omega arith) h,
-      λ h. absurd (omega arith),
+      hunting-old (a .stride) (m .letters) (besideOf bs cs) (m .states) (mask (m .initial)) (mask (m .finals)) hn (a .b .now) (a .w .now) (a .s .count) (a .k) (a .l) (mask (a .s .pivots)) (mask (a .s .used)) (s .pre .1) (s .pre .2) (s .pre .3) (mask (a .y)) (s .pre .4) (q .last .0) (r .count) (mask (r .pivots)) (mask (r .used)) (q .ensures) (omega arith),
+      row-kept (a .stride) (m .letters) (besideOf bs cs) (m .states) (mask (m .initial)) (mask (m .finals)) hn (a .b .now) (a .w .now) (a .s .count) (a .k) (a .l) (mask (a .s .pivots)) (mask (a .s .used)) (s .pre .1) (s .pre .2) (s .pre .3) (mask (a .y)) (s .pre .4) (q .last .0) (r .count) (mask (r .pivots)) (mask (r .used)) (q .ensures) (a .k) (s .pre .2),
     )
 
 link-requires : tie.Need-link-requires
@@ -79,7 +75,7 @@ link-requires c κs =
     let z = paired-sizes bs cs m (s .pre .0) in
     let q = c .before .before .before .before .before .insert in
     let r = q .result in
-    let d = new-below (a .stride) (m .letters) (besideOf bs cs) (m .states) (mask (m .initial)) (mask (m .finals)) (z .1) (a .b .now) (a .w .now) (a .s .count) (a .k) (a .l) (mask (a .s .pivots)) (mask (a .s .used)) (s .pre .1) (s .pre .2) (s .pre .3) (mask (a .y)) (s .pre .4) (q .last .0) (r .count) (mask (r .pivots)) (mask (r .used)) (q .ensures .0) (omega (arith, c .before .if2 .left)) in
+    let d = new-below (a .stride) (m .letters) (besideOf bs cs) (m .states) (mask (m .initial)) (mask (m .finals)) (z .1) (a .b .now) (a .w .now) (a .s .count) (a .k) (a .l) (mask (a .s .pivots)) (mask (a .s .used)) (s .pre .1) (s .pre .2) (s .pre .3) (mask (a .y)) (s .pre .4) (q .last .0) (r .count) (mask (r .pivots)) (mask (r .used)) (q .ensures) (omega (arith, c .before .if2 .left)) in
     (d, omega (arith, s .pre .2), omega (arith, z .2, s .pre .3))
 
 parity-requires : tie.Need-parity-requires
@@ -102,10 +98,8 @@ returns-3 c =
     let hn = paired-sizes bs cs m (s .pre .0) .1 in
     let q = c .before .before .before .before .before .before .before .before .insert in
     let r = q .result in (
-      rw (c .before .before .link .ensures) (stopped-new (a .stride) (m .letters) (besideOf bs cs) (m .states) (mask (m .initial)) (mask (m .finals)) hn (a .b .now) (a .w .now) (a .s .count) (a .k) (a .l) (mask (a .s .pivots)) (mask (a .s .used)) (s .pre .1) (s .pre .2) (s .pre .3) (mask (a .y)) (s .pre .4) (q .last .0) (r .count) (mask (r .pivots)) (mask (r .used)) (q .ensures .0) (omega (arith, c .before .before .before .before .if2 .left)) (sym (told (c .before)) ∙ c .if3 .taken)),
-      row-kept (a .stride) (m .letters) (besideOf bs cs) (m .states) (mask (m .initial)) (mask (m .finals)) hn (a .b .now) (a .w .now) (a .s .count) (a .k) (a .l) (mask (a .s .pivots)) (mask (a .s .used)) (s .pre .1) (s .pre .2) (s .pre .3) (mask (a .y)) (s .pre .4) (q .last .0) (r .count) (mask (r .pivots)) (mask (r .used)) (q .ensures .0) (a .k) (s .pre .2),
-      λ i h. q .ensures .1 2 i (omega arith) h,
-      tt,
+      rw (c .before .before .link .ensures) (stopped-new (a .stride) (m .letters) (besideOf bs cs) (m .states) (mask (m .initial)) (mask (m .finals)) hn (a .b .now) (a .w .now) (a .s .count) (a .k) (a .l) (mask (a .s .pivots)) (mask (a .s .used)) (s .pre .1) (s .pre .2) (s .pre .3) (mask (a .y)) (s .pre .4) (q .last .0) (r .count) (mask (r .pivots)) (mask (r .used)) (q .ensures) (omega (arith, c .before .before .before .before .if2 .left)) (sym (told (c .before)) ∙ c .if3 .taken)),
+      row-kept (a .stride) (m .letters) (besideOf bs cs) (m .states) (mask (m .initial)) (mask (m .finals)) hn (a .b .now) (a .w .now) (a .s .count) (a .k) (a .l) (mask (a .s .pivots)) (mask (a .s .used)) (s .pre .1) (s .pre .2) (s .pre .3) (mask (a .y)) (s .pre .4) (q .last .0) (r .count) (mask (r .pivots)) (mask (r .used)) (q .ensures) (a .k) (s .pre .2),
     )
 
 same-length-3 : tie.Need-same-length-3
@@ -121,10 +115,8 @@ returns-4 c =
     let hn = paired-sizes bs cs m (s .pre .0) .1 in
     let q = c .before .before .before .before .before .before .before .before .insert in
     let r = q .result in (
-      rw (c .before .before .link .ensures) (hunting-new (a .stride) (m .letters) (besideOf bs cs) (m .states) (mask (m .initial)) (mask (m .finals)) hn (a .b .now) (a .w .now) (a .s .count) (a .k) (a .l) (mask (a .s .pivots)) (mask (a .s .used)) (s .pre .1) (s .pre .2) (s .pre .3) (mask (a .y)) (s .pre .4) (q .last .0) (r .count) (mask (r .pivots)) (mask (r .used)) (q .ensures .0) (omega (arith, c .before .before .before .before .if2 .left)) (sym (told (c .before)) ∙ c .if3 .left)),
-      row-kept (a .stride) (m .letters) (besideOf bs cs) (m .states) (mask (m .initial)) (mask (m .finals)) hn (a .b .now) (a .w .now) (a .s .count) (a .k) (a .l) (mask (a .s .pivots)) (mask (a .s .used)) (s .pre .1) (s .pre .2) (s .pre .3) (mask (a .y)) (s .pre .4) (q .last .0) (r .count) (mask (r .pivots)) (mask (r .used)) (q .ensures .0) (a .k) (s .pre .2),
-      λ i h. q .ensures .1 2 i (omega arith) h,
-      grown-new (a .stride) (m .letters) (besideOf bs cs) (m .states) (mask (m .initial)) (mask (m .finals)) hn (a .b .now) (a .w .now) (a .s .count) (a .k) (a .l) (mask (a .s .pivots)) (mask (a .s .used)) (s .pre .1) (s .pre .2) (s .pre .3) (mask (a .y)) (s .pre .4) (q .last .0) (r .count) (mask (r .pivots)) (mask (r .used)) (q .ensures .0) (omega (arith, c .before .before .before .before .if2 .left)),
+      rw (c .before .before .link .ensures) (hunting-new (a .stride) (m .letters) (besideOf bs cs) (m .states) (mask (m .initial)) (mask (m .finals)) hn (a .b .now) (a .w .now) (a .s .count) (a .k) (a .l) (mask (a .s .pivots)) (mask (a .s .used)) (s .pre .1) (s .pre .2) (s .pre .3) (mask (a .y)) (s .pre .4) (q .last .0) (r .count) (mask (r .pivots)) (mask (r .used)) (q .ensures) (omega (arith, c .before .before .before .before .if2 .left)) (sym (told (c .before)) ∙ c .if3 .left)),
+      row-kept (a .stride) (m .letters) (besideOf bs cs) (m .states) (mask (m .initial)) (mask (m .finals)) hn (a .b .now) (a .w .now) (a .s .count) (a .k) (a .l) (mask (a .s .pivots)) (mask (a .s .used)) (s .pre .1) (s .pre .2) (s .pre .3) (mask (a .y)) (s .pre .4) (q .last .0) (r .count) (mask (r .pivots)) (mask (r .used)) (q .ensures) (a .k) (s .pre .2),
     )
 
 pub try-pair-spec : {M : Type 1} → statement M

@@ -1,5 +1,4 @@
--- `first_accepted`: over one letter or over more, from the initial row on.
-use native.Mathlib.Omega.{arith}
+-- `first_accepted`: from the initial row on.
 use borrow.Author.Needs.{needs}
 use denote.Ref.{now}
 use Rattle.rows.specs.Row.{mask}
@@ -9,18 +8,9 @@ use Rattle.hunt.proofs.HuntLaws.{hunting-start}
 use Rattle.search.proofs.first_accepted.Statement.{statement}
 use Rattle.search.proofs.first_accepted.Tie as tie
 
-first-along-requires : tie.Need-first-along-requires
-first-along-requires c κs = let s = c .before .before .before .before .before .before in (s .pre .0, s .pre .1, s .pre .2, s .pre .3, s .pre .4, omega arith)
-
-same-length : tie.Need-same-length
-same-length c = search needs
-
-returns : tie.Need-returns
-returns c = c .before .before .first-along .ensures
-
 start-requires : tie.Need-start-requires
 start-requires c κs =
-    let s = c .before .before .before .before .before in
+    let s = c .before .before .before .before in
     let a = s .args in
     let bs = now (a .first) in
     let cs = now (a .second) in
@@ -28,7 +18,7 @@ start-requires c κs =
 
 try-rows-requires : tie.Need-try-rows-requires
 try-rows-requires c κs =
-    let s = c .before .before .before .before .before .before .before .before .before .before in
+    let s = c .before .before .before .before .before .before .before .before .before in
     let a = s .args in
     let m = a .m in
     let q = c .before .before .before .before .start in
@@ -36,12 +26,11 @@ try-rows-requires c κs =
     let S = q .ensures in
     (s .pre .0, hunting-start (a .stride) (m .letters) (besideOf (now (a .first)) (now (a .second))) (m .states) (mask (m .initial)) (mask (m .finals)) (S .coef) (S .coef′) (S .made) (a .b .now) (q .last .0) (a .w .now) (r .count) (mask (r .pivots)) (mask (r .used)) (S .placed) (s .pre .2) (s .pre .1) (s .pre .3) (s .pre .4))
 
-same-length-2 : tie.Need-same-length-2
-same-length-2 c = search needs
+same-length : tie.Need-same-length
+same-length c = search needs
 
-returns-2 : tie.Need-returns-2
-returns-2 c = c .before .before .try-rows .ensures
+returns : tie.Need-returns
+returns c = c .before .before .try-rows .ensures
 
 pub first-accepted-spec : {M : Type 1} → statement M
-first-accepted-spec =
-    tie.close (tie.spec first-along-requires same-length returns start-requires try-rows-requires same-length-2 returns-2)
+first-accepted-spec = tie.close (tie.spec start-requires try-rows-requires same-length returns)

@@ -1,2 +1,0 @@
--- The definitions that the contracts of the search over one letter cite.
-pub mod Chain

@@ -1,0 +1,3 @@
+pub mod SpanLaws
+pub mod TopBit
+pub mod StepLaws

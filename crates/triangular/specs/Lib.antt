@@ -1,0 +1,2 @@
+-- What the contracts of the triangular basis cite.
+pub mod Triangular

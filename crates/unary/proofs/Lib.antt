@@ -1,0 +1,3 @@
+pub mod Unary
+pub mod PowerLaws
+pub mod TryLaws

@@ -1,0 +1,2 @@
+-- What the contracts over one letter cite.
+pub mod Powers

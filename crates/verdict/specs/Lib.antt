@@ -1,0 +1,3 @@
+-- What a comparison finds, and what it is found from.
+pub mod Rows
+pub mod Judged
