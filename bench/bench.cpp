@@ -11,6 +11,8 @@ extern "C" {
 #include <cstdio>
 #include <cstdlib>
 #include <cstring>
+#include <deque>
+#include <functional>
 #include <string>
 #include <time.h>
 #include <vector>
@@ -19,6 +21,9 @@ struct Pair { Bytes first, second; };
 
 // So many inputs of a family that no branch predictor knows them by heart: with 128 small ones it does, in some runs, for some programs.
 static const int INPUTS = 512;
+
+// How often the benchmark goes through all families.
+static const int PASSES = 16;
 
 // ---- times
 
@@ -30,8 +35,7 @@ static double seconds() {
 
 static volatile size_t sink;
 
-// The fastest of many slices of work, in microseconds for one call. The slices of the three programs take turns, so that what slows
-// the machine for a while slows all three.
+// The fastest of many slices of work, in microseconds for one call.
 struct Timer {
     size_t rounds = 1;
     double best = 1e9;
@@ -47,55 +51,81 @@ struct Timer {
     }
 };
 
-struct Line { std::string name; double plain, tuned, proved; };
-static std::vector<Line> lines;
+// A family: its name, a turn of the three programs, which is a slice of each, and how many seconds of each it is given.
+struct Family {
+    std::string name;
+    double budget;
+    std::function<double(Family&)> turn;
+    Timer plain = {}, tuned = {}, proved = {};
 
-template <class P, class T, class V> static void time_three(const std::string& name, size_t inputs, double budget, P p, T t, V v) {
-    Timer plain, tuned, proved;
-    double spent = 0;
-    for (int turn = 0; spent < 3 * budget || turn < 30; turn++)
-        spent += plain.slice(inputs, p) + tuned.slice(inputs, t) + proved.slice(inputs, v);
-    lines.push_back({name, plain.best, tuned.best, proved.best});
-    std::printf("%-42s %8.3f %8.3f %8.3f   %6.2f %6.2f\n", name.c_str(), plain.best, tuned.best, proved.best, proved.best / plain.best, proved.best / tuned.best);
-    std::fflush(stdout);
+    double to_plain() const { return proved.best / plain.best; }
+    double to_tuned() const { return proved.best / tuned.best; }
+    double to_better() const { return std::max(to_plain(), to_tuned()); }
+};
+static std::vector<Family> families;
+
+template <class P, class T, class V> static void add_family(const std::string& name, size_t inputs, double budget, P p, T t, V v) {
+    families.push_back({name, budget, [=](Family& f) { return f.plain.slice(inputs, p) + f.tuned.slice(inputs, t) + f.proved.slice(inputs, v); }});
 }
 
-static void time_check(const std::string& name, const std::vector<Bytes>& in, double budget) {
-    auto plain = [&](size_t i) { sink = check(in[i].data(), in[i].size(), 1).no; };
-    time_three("check " + name, in.size(), budget, plain, plain, [&](size_t i) { sink = nxa_check(in[i].data(), in[i].size()).number; });
+// All families, one after another, in many passes. Others on the machine slow it for seconds at a time, so that no family is to have all
+// its slices in one stretch; and the slices of the three programs take turns.
+static void time_families() {
+    for (int pass = 0; pass < PASSES; pass++)
+        for (Family& f : families) {
+            double spent = 0;
+            for (int turn = 0; spent < 3 * f.budget / PASSES || turn < 4; turn++) spent += f.turn(f);
+        }
 }
 
-static void time_minimal(const std::string& name, const std::vector<Bytes>& in, double budget) {
-    u8 out[NXA_RECORD_MAX];
-    time_three(
-        "minimal " + name, in.size(), budget, [&](size_t i) { sink = minimal(in[i].data(), in[i].size(), out, sizeof out).dim; },
-        [&](size_t i) { sink = tuned::minimal(in[i].data(), in[i].size(), out, sizeof out).dim; },
-        [&](size_t i) { sink = nxa_minimal(in[i].data(), in[i].size(), out, sizeof out).value; });
+// What the families run on, and where the answers go.
+static std::deque<std::vector<Bytes>> records;
+static std::deque<std::vector<Pair>> pairs;
+static u8 out[NXA_RECORD_MAX], word[64];
+
+static void time_check(const std::string& name, const std::vector<Bytes>& of, double budget) {
+    const Bytes* in = records.emplace_back(of).data();
+    auto plain = [=](size_t i) { sink = check(in[i].data(), in[i].size(), 1).no; };
+    add_family("check " + name, of.size(), budget, plain, plain, [=](size_t i) { sink = nxa_check(in[i].data(), in[i].size()).number; });
 }
 
-static void time_compare(const std::string& name, const std::vector<Pair>& in, double budget) {
-    u8 w[64];
-    auto first = [&](size_t i) { return in[i].first.data(); };
-    auto second = [&](size_t i) { return in[i].second.data(); };
-    time_three(
-        "compare " + name, in.size(), budget, [&](size_t i) { sink = compare(first(i), in[i].first.size(), second(i), in[i].second.size(), w, 64).len; },
-        [&](size_t i) { sink = tuned::compare(first(i), in[i].first.size(), second(i), in[i].second.size(), w, 64).len; },
-        [&](size_t i) { sink = nxa_compare(first(i), in[i].first.size(), second(i), in[i].second.size(), w, 64).length; });
+static void time_minimal(const std::string& name, const std::vector<Bytes>& of, double budget) {
+    const Bytes* in = records.emplace_back(of).data();
+    add_family(
+        "minimal " + name, of.size(), budget, [=](size_t i) { sink = minimal(in[i].data(), in[i].size(), out, sizeof out).dim; },
+        [=](size_t i) { sink = tuned::minimal(in[i].data(), in[i].size(), out, sizeof out).dim; },
+        [=](size_t i) { sink = nxa_minimal(in[i].data(), in[i].size(), out, sizeof out).value; });
 }
 
-// The family with the worst ratio to `of`, among those that `counts` takes.
-template <class C, class O> static void worst(const char* what, C counts, O of) {
-    const Line* bad = nullptr;
-    for (const Line& l : lines)
-        if (counts(l) && (!bad || l.proved / of(l) > bad->proved / of(*bad))) bad = &l;
-    if (bad) std::printf("worst %s: %.2f, %s\n", what, bad->proved / of(*bad), bad->name.c_str());
+static void time_compare(const std::string& name, const std::vector<Pair>& of, double budget) {
+    const Pair* in = pairs.emplace_back(of).data();
+    auto first = [=](size_t i) { return in[i].first.data(); };
+    auto second = [=](size_t i) { return in[i].second.data(); };
+    add_family(
+        "compare " + name, of.size(), budget, [=](size_t i) { sink = compare(first(i), in[i].first.size(), second(i), in[i].second.size(), word, 64).len; },
+        [=](size_t i) { sink = tuned::compare(first(i), in[i].first.size(), second(i), in[i].second.size(), word, 64).len; },
+        [=](size_t i) { sink = nxa_compare(first(i), in[i].first.size(), second(i), in[i].second.size(), word, 64).length; });
 }
 
-static void worst_lines() {
-    auto plain = [](const Line& l) { return l.plain; };
-    worst("to the better of the two", [](const Line&) { return true; }, [](const Line& l) { return std::min(l.plain, l.tuned); });
-    worst("to plain at n=32 a=8, over 5 microseconds", [](const Line& l) { return l.plain > 5 && l.name.find("n=32 a=8") != std::string::npos; }, plain);
-    worst("to plain, over 5 microseconds", [](const Line& l) { return l.plain > 5; }, plain);
+static void print_families() {
+    std::printf("%-42s %8s %8s %8s   %6s %6s\n", "microseconds for one call", "plain", "tuned", "proved", "/plain", "/tuned");
+    for (const Family& f : families)
+        std::printf("%-42s %8.3f %8.3f %8.3f   %6.2f %6.2f\n", f.name.c_str(), f.plain.best, f.tuned.best, f.proved.best, f.to_plain(), f.to_tuned());
+}
+
+// The family with the worst of a ratio, among those that `counts` takes.
+template <class C, class R> static void worst(const char* what, C counts, R ratio) {
+    const Family* bad = nullptr;
+    for (const Family& f : families)
+        if (counts(f) && (!bad || ratio(f) > ratio(*bad))) bad = &f;
+    if (bad) std::printf("worst %s: %.2f, %s\n", what, ratio(*bad), bad->name.c_str());
+}
+
+static void print_worst() {
+    auto to_plain = [](const Family& f) { return f.to_plain(); };
+    worst("to plain, over 5 microseconds", [](const Family& f) { return f.plain.best > 5; }, to_plain);
+    worst("to plain at n=32 a=8, over 5 microseconds", [](const Family& f) { return f.plain.best > 5 && f.name.find("n=32 a=8") != std::string::npos; }, to_plain);
+    worst("to the better of the two", [](const Family&) { return true; }, [](const Family& f) { return f.to_better(); });
 }
 
 // ---- agreement
@@ -186,7 +216,6 @@ static void time_single(int n, int a, double budget) {
 int main(int argc, char** argv) {
     double budget = argc > 1 ? std::atof(argv[1]) : 0.25;
     agree(20000);
-    std::printf("%-42s %8s %8s %8s   %6s %6s\n", "microseconds for one call", "plain", "tuned", "proved", "/plain", "/tuned");
     for (int n : {1, 2, 4, 8, 16, 32})
         for (int a : {1, 2, 8}) time_dense(n, a, budget);
     for (int n : {4, 32})
@@ -194,5 +223,7 @@ int main(int argc, char** argv) {
     for (int n : {1, 2, 3, 4, 8, 16})
         for (int a : {1, 2, 3, 8}) time_single(n, a, budget / 2);
     time_worst(budget);
-    worst_lines();
+    time_families();
+    print_families();
+    print_worst();
 }
