@@ -66,7 +66,7 @@ fn settle(first: &[u8], second: &[u8], word: &mut [u8]) -> Compared
     ensures buffer { λ _. ⌜ now (word .exit) ≡ bufferOf (compareOutcome (now (first .entry)) (now (second .entry)) (length (now (word .entry)))) (now (word .entry)) ⌝ }
 {
     let mut w = [0u8; 128];
-    let v = comparison::compare(first, second, &mut w);
+    let v = comparison::compare(&*first, &*second, &mut w);
     let Verdict::Differs {
         row,
         first: by_first,
@@ -105,5 +105,5 @@ pub fn compare(first: &[u8], second: &[u8], word: &mut [u8]) -> Compared
     let Pair::Both = p else {
         return refuse(p);
     };
-    settle(first, second, word)
+    settle(&*first, &*second, word)
 }

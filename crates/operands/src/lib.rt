@@ -31,11 +31,13 @@ fn refuse(c: Checked, record: usize) -> Pair
 pub fn check_pair(first: &[u8], second: &[u8]) -> Pair
     ensures { λ r. ⌜ r ≡ pairOf (now (first .entry)) (now (second .entry)) ⌝ }
 {
-    let one = record::check(first);
+    let left = &*first;
+    let right = &*second;
+    let one = record::check(left);
     let Checked::Good = one else {
         return refuse(one, 1);
     };
-    let two = record::check(second);
+    let two = record::check(right);
     let Checked::Good = two else {
         return refuse(two, 2);
     };

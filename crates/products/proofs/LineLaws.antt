@@ -55,14 +55,14 @@ entry-lt bs x s good u l h = product-below bs good l x (getD s l 0) h (u .1 l h)
 
 -- The products of both parts of a row, merged.
 pub both-merged : (bs cs : List ℕ) (x n l : ℕ) {h y : ℕ} (s₀ t s : List ℕ) → lettersOf cs ≡ lettersOf bs → n ≡ statesOf bs → l ≡ lettersOf bs
-    → h ≡ x / 2 ^ n → y ≡ bitXor x (h * 2 ^ n) → Letters bs y s₀ → Letters cs h t → Merged l n s₀ t s → Both bs cs x s
+    → h ≡ x / 2 ^ n → y ≡ bitXor x (x / 2 ^ n * 2 ^ n) → Letters bs y s₀ → Letters cs h t → Merged l n s₀ t s → Both bs cs x s
 both-merged bs cs x n l {h} {y} s₀ t s same en el eh ey u w m = (m .size, side)
   where
     high : h ≡ x / 2 ^ statesOf bs
     high = eh ∙ rw en
 
     low : y ≡ bitXor x (x / 2 ^ statesOf bs * 2 ^ statesOf bs)
-    low = ey ∙ rw (high, en)
+    low = ey ∙ rw en
 
     side : (k : ℕ) → k < lettersOf bs → getD s k 0 ≡ product (statesOf bs + statesOf cs) x (beside (rowAt bs) (rowAt cs) (statesOf bs) k)
     side k z =

@@ -1,12 +1,13 @@
 // Products of a row with the matrices of a well-formed record, taken from the record's bytes.
 ghost use mathlib.Core.Path.{_≡_};
+ghost use mathlib.Core.Bool.{true};
 ghost use Prim.Native.Nat.{_+_, _^_, _≤_, _<_};
 ghost use lib.ListN.{length};
 ghost use Rattle.rows.specs.Row.{mask};
 ghost use Rattle.rows.specs.Table.{blocks};
 ghost use Rattle.rows.specs.Product.{product};
 ghost use Rattle.record.specs.Record.{statesOf, lettersOf, rowAt, WellFormed};
-ghost use Rattle.products.specs.Lines.{Upto, Letters};
+ghost use Rattle.products.specs.Lines.{Upto, Letters, Single};
 use kernels::Four;
 use kernels::Line;
 use kernels::Two;
@@ -36,6 +37,58 @@ pub fn times_one(bytes: &[u8], l: usize, x: Row) -> Row
         z = rows::clear_lowest(z);
     }
     y
+}
+
+// Whether x has at most one bit.
+pub fn is_single(x: Row) -> bool
+    ensures { λ r. ⌜ (r ≡ true → Single (mask x)) ⌝ }
+{
+    if rows::is_none(x) {
+        return true;
+    }
+    rows::is_none(rows::clear_lowest(x))
+}
+
+// The row x, of at most one bit, times the matrix of letter l: a row of it, or none. The record has n states.
+pub fn times_single(bytes: &[u8], n: usize, l: usize, x: Row) -> Row
+    requires { ⌜ WellFormed (now bytes) × (n ≡ statesOf (now bytes)) × (l < lettersOf (now bytes)) × (mask x < 2 ^ statesOf (now bytes)) × Single (mask x) ⌝ }
+    ensures { λ r. ⌜ mask r ≡ product (statesOf (now (bytes .entry))) (mask x) (rowAt (now (bytes .entry)) l) ⌝ }
+{
+    if rows::is_none(x) {
+        return x;
+    }
+    row_at(bytes, n, l, rows::lowest(x))
+}
+
+// Three rows.
+pub struct Three {
+    pub first: Row,
+    pub second: Row,
+    pub third: Row,
+}
+
+// The row x times the matrices of the first three letters, in one pass over the bits of x.
+pub fn times_three(bytes: &[u8], x: Row) -> Three
+    requires { ⌜ WellFormed (now bytes) × (3 ≤ lettersOf (now bytes)) × (mask x < 2 ^ statesOf (now bytes)) ⌝ }
+    ensures { λ r. ⌜ (mask (r .first) ≡ product (statesOf (now (bytes .entry))) (mask x) (rowAt (now (bytes .entry)) 0)) × (mask (r .second) ≡ product (statesOf (now (bytes .entry))) (mask x) (rowAt (now (bytes .entry)) 1)) × (mask (r .third) ≡ product (statesOf (now (bytes .entry))) (mask x) (rowAt (now (bytes .entry)) 2)) ⌝ }
+{
+    let n = record::size(bytes[5]);
+    let mut z = x;
+    let mut y0 = rows::none();
+    let mut y1 = rows::none();
+    let mut y2 = rows::none();
+    while !rows::is_none(z) {
+        let i = rows::lowest(z);
+        y0 = rows::xor(y0, row_at(bytes, n, 0, i));
+        y1 = rows::xor(y1, row_at(bytes, n, 1, i));
+        y2 = rows::xor(y2, row_at(bytes, n, 2, i));
+        z = rows::clear_lowest(z);
+    }
+    Three {
+        first: y0,
+        second: y1,
+        third: y2,
+    }
 }
 
 // The row x times the matrices of letters l and l + 1, in one pass over the bits of x.

@@ -1,15 +1,19 @@
 // The search for the first accepted row of two well-formed records side by side, straight from their bytes.
 ghost use mathlib.Core.Path.{_≡_};
 ghost use mathlib.Core.Bool.{false};
-ghost use Prim.Native.Nat.{_+_, _≤_, _<_};
+ghost use Prim.Native.Nat.{ℕ, _+_, _*_, _/_, _^_, _≤_, _<_};
 ghost use lib.ListN.{length};
+ghost use lib.Bits.{bitXor};
 ghost use Rattle.rows.specs.Row.{mask};
 ghost use Rattle.basis.specs.Basis.{cell, Room};
 ghost use Rattle.trail.specs.Trail.{trailSize};
+ghost use Rattle.record.specs.Record.{statesOf};
+ghost use Rattle.products.specs.Lines.{Single};
 ghost use Rattle.hunt.specs.Both.{Paired};
 ghost use Rattle.hunt.specs.Hunt.{shared, HuntingIn, HuntedIn, EndedIn};
 use elimination::Size;
 use hunt::Hunt;
+use products::Three;
 use rows::Machine;
 use rows::Row;
 use trail::Trail;
@@ -46,36 +50,6 @@ fn try_line(
     Hunt::Going(r)
 }
 
-// The same, each product made when its letter is tried: a letter that ends the search spares those after it.
-fn try_each(
-    first: &[u8],
-    second: &[u8],
-    m: Machine,
-    b: &mut [u64],
-    stride: usize,
-    w: &mut Trail,
-    s: Size,
-    k: usize,
-    x: Row,
-) -> Hunt
-    requires { ⌜ Paired (now first) (now second) m × HuntingIn stride (now first) (now second) m (now b) (now w) s k 0 × (k < s .count) × (mask x ≡ cell stride (now b) 1 k) ⌝ }
-    ensures { λ r. ⌜ HuntedIn stride (now (first .entry)) (now (second .entry)) m (now (b .exit)) (now (w .exit)) (s .count) (k + 1) 0 r ⌝ }
-{
-    let a = m.letters;
-    let mut r = s;
-    let mut l: usize = 0;
-    while l < a {
-        let y = pair_products::times_pair(first, second, l, x);
-        let h = hunt::try_pair(first, second, m, b, stride, w, y, r, k, l);
-        let Hunt::Going(next) = h else {
-            return h;
-        };
-        r = next;
-        l += 1;
-    }
-    Hunt::Going(r)
-}
-
 // The same over two letters, the products made in one pass.
 fn try_two(
     first: &[u8],
@@ -101,31 +75,83 @@ fn try_two(
     hunt::try_pair(first, second, m, b, stride, w, z, next, k, 1)
 }
 
-// Whether x has at most two bits, as a row of two deterministic machines side by side has.
-fn is_sparse(x: Row) -> bool {
-    if rows::is_none(x) {
-        return true;
+// Row l of three.
+fn pick(p: Three, l: usize) -> Row
+    requires { ⌜ l < 3 ⌝ }
+    ensures { λ r. ⌜ ((F : ℕ → ℕ) → mask (p .first) ≡ F 0 → mask (p .second) ≡ F 1 → mask (p .third) ≡ F 2 → mask r ≡ F l) ⌝ }
+{
+    if l == 0 {
+        return p.first;
     }
-    let y = rows::clear_lowest(x);
-    if rows::is_none(y) {
-        return true;
+    if l == 1 {
+        return p.second;
     }
-    rows::is_none(rows::clear_lowest(y))
+    p.third
 }
 
-// Whether the products of a row x are made one by one: from four letters on a line is worth its making, unless there are few states or the
-// row has few bits. It decides how products are made and not what they are, so that it promises nothing.
-fn one_by_one(m: Machine, x: Row) -> bool {
-    if m.letters < 4 {
-        return true;
+// The same over three letters, the products made in one pass.
+fn try_three(
+    first: &[u8],
+    second: &[u8],
+    m: Machine,
+    b: &mut [u64],
+    stride: usize,
+    w: &mut Trail,
+    s: Size,
+    k: usize,
+    x: Row,
+) -> Hunt
+    requires { ⌜ Paired (now first) (now second) m × HuntingIn stride (now first) (now second) m (now b) (now w) s k 0 × (k < s .count) × (mask x ≡ cell stride (now b) 1 k) × (m .letters ≡ 3) ⌝ }
+    ensures { λ r. ⌜ HuntedIn stride (now (first .entry)) (now (second .entry)) m (now (b .exit)) (now (w .exit)) (s .count) (k + 1) 0 r ⌝ }
+{
+    let p = pair_products::times_three_both(first, second, x);
+    let mut r = s;
+    let mut l: usize = 0;
+    while l < 3 {
+        let y = pick(p, l);
+        let h = hunt::try_pair(first, second, m, b, stride, w, y, r, k, l);
+        let Hunt::Going(next) = h else {
+            return h;
+        };
+        r = next;
+        l += 1;
     }
-    if m.states <= 4 {
-        return true;
-    }
-    is_sparse(x)
+    Hunt::Going(r)
 }
 
-// Row k by every letter.
+// The same for a row whose halves have at most one bit each, n the states of the first record: a product is then two rows read.
+fn try_single(
+    first: &[u8],
+    second: &[u8],
+    m: Machine,
+    b: &mut [u64],
+    stride: usize,
+    w: &mut Trail,
+    s: Size,
+    k: usize,
+    x: Row,
+    n: usize,
+) -> Hunt
+    requires { ⌜ Paired (now first) (now second) m × HuntingIn stride (now first) (now second) m (now b) (now w) s k 0 × (k < s .count) × (mask x ≡ cell stride (now b) 1 k) × (n ≡ statesOf (now first)) × Single (mask x / 2 ^ n) × Single (bitXor (mask x) (mask x / 2 ^ n * 2 ^ n)) ⌝ }
+    ensures { λ r. ⌜ HuntedIn stride (now (first .entry)) (now (second .entry)) m (now (b .exit)) (now (w .exit)) (s .count) (k + 1) 0 r ⌝ }
+{
+    let a = m.letters;
+    let j = record::size(second[5]);
+    let mut r = s;
+    let mut l: usize = 0;
+    while l < a {
+        let y = pair_products::times_singles(first, second, n, j, l, x);
+        let h = hunt::try_pair(first, second, m, b, stride, w, y, r, k, l);
+        let Hunt::Going(next) = h else {
+            return h;
+        };
+        r = next;
+        l += 1;
+    }
+    Hunt::Going(r)
+}
+
+// Row k by every letter, by the shortest way for so many letters, and for its bits.
 fn try_row(
     first: &[u8],
     second: &[u8],
@@ -143,8 +169,12 @@ fn try_row(
     if m.letters == 2 {
         return try_two(first, second, m, b, stride, w, s, k, x);
     }
-    if one_by_one(m, x) {
-        return try_each(first, second, m, b, stride, w, s, k, x);
+    let n = record::size(first[5]);
+    if pair_products::are_single(n, x) {
+        return try_single(first, second, m, b, stride, w, s, k, x, n);
+    }
+    if m.letters == 3 {
+        return try_three(first, second, m, b, stride, w, s, k, x);
     }
     try_line(first, second, m, b, stride, w, s, k, x)
 }

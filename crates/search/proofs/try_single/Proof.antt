@@ -1,4 +1,4 @@
--- `try_each`: each letter is tried with the product made for it.
+-- `try_single`: each letter is tried with the product made for it, two rows read.
 use mathlib.Core.Path.{_≡_, refl, sym, ap, _∙_}
 use Prim.Native.Nat.{_-_, _^_, _<_}
 use native.Mathlib.Omega.{arith}
@@ -10,38 +10,44 @@ use Rattle.hunt.specs.Both.{besideOf}
 use Rattle.hunt.proofs.BothLaws.{paired-sizes}
 use Rattle.hunt.proofs.HuntLaws.{hunting-next}
 use Rattle.search.proofs.TryLaws.{Trying, found-below}
-use Rattle.search.proofs.try_each.Statement.{statement}
-use Rattle.search.proofs.try_each.Tie as tie
+use Rattle.record.proofs.Refusals.{good-check}
+use Rattle.search.proofs.try_single.Statement.{statement}
+use Rattle.search.proofs.try_single.Tie as tie
 
 abbrev Inv-loop : tie.InvT-loop
-Inv-loop first second m b₀ stride w₀ k x a r₀ l₀ b w r l = Trying first second m stride b₀ b w k (r₀ .count) l r
+Inv-loop first second m b₀ stride w₀ k x n a j r₀ l₀ b w r l = Trying first second m stride b₀ b w k (r₀ .count) l r
 
 abbrev μ-loop : tie.MeasureT-loop
-μ-loop first second m b₀ stride w₀ k x a r₀ l₀ b w r l = m .letters - l
+μ-loop first second m b₀ stride w₀ k x n a j r₀ l₀ b w r l = m .letters - l
 
 -- The row has no bit above those of the two.
 low : (s : tie.Start Inv-loop μ-loop) → mask (s .args .x) < 2 ^ s .args .m .states
 low s = let a = s .args in found-below (a .stride) (a .m .letters) (besideOf (now (a .first)) (now (a .second))) (a .m .states) (mask (a .m .initial)) (mask (a .m .finals)) (a .b .now) (a .w .now) (a .s .count) (a .k) 0 (mask (a .s .pivots)) (mask (a .s .used)) (mask (a .x)) (s .pre .1) (s .pre .2) (s .pre .3)
 
+shared-slice-read-size : tie.Need-shared-slice-read-size Inv-loop μ-loop
+shared-slice-read-size c = let f = good-check _ (c .before .before .before .before .pre .0 .second) .front in omega arith
+
+size-requires : tie.Need-size-requires Inv-loop μ-loop
+size-requires c κs = tt
+
 loop-holds : tie.Need-loop-holds Inv-loop μ-loop
-loop-holds c = let s = c .before .before .before in (omega arith, s .pre .1, omega arith, refl, refl)
+loop-holds c = let s = c .before .before .before .before .before in (omega arith, s .pre .1, omega arith, refl, refl)
 
-times-pair-requires : tie.Need-times-pair-requires Inv-loop μ-loop
-times-pair-requires c κs =
-    let s = c .before .before .before .before .before in
+times-singles-requires : tie.Need-times-singles-requires Inv-loop μ-loop
+times-singles-requires c κs =
+    let s = c .before .before .before .before .before .before .before in
     let P = s .pre .0 in
-    (P .first, P .second, sym (P .same), omega (arith, P .letters, c .loop-test .taken), rw (P .states) at (low s))
+    (P .first, P .second, sym (P .same), omega (arith, P .letters, c .loop-test .taken), rw (P .states) at (low s), s .pre .4, c .before .before .size .ensures .0, s .pre .5, s .pre .6)
 
-made : (c : tie.After-times-pair Inv-loop μ-loop) → mask (c .times-pair .result) ≡ product (c .before .before .before .before .before .before .args .m .states) (mask (c .before .before .before .before .before .before .args .x)) (besideOf (now (c .before .before .before .before .before .before .args .first)) (now (c .before .before .before .before .before .before .args .second)) (c .before .before .loop .l))
-made c = rw (c .before .before .before .before .before .before .pre .0 .states) (c .times-pair .ensures)
+made : (c : tie.After-times-singles Inv-loop μ-loop) → mask (c .times-singles .result) ≡ product (c .before .before .before .before .before .before .before .before .args .m .states) (mask (c .before .before .before .before .before .before .before .before .args .x)) (besideOf (now (c .before .before .before .before .before .before .before .before .args .first)) (now (c .before .before .before .before .before .before .before .before .args .second)) (c .before .before .loop .l))
+made c = rw (c .before .before .before .before .before .before .before .before .pre .0 .states) (c .times-singles .ensures)
 
 try-pair-requires : tie.Need-try-pair-requires Inv-loop μ-loop
 try-pair-requires c κs =
     let v = c .before .before .before .before .loop in
-    let s = c .before .before .before .before .before .before .before .before in
+    let s = c .before .before .before .before .before .before .before .before .before .before in
     let a = s .args in
-    let h = c .before .before .before .loop-test .taken in
-    (s .pre .0, v .inv .1, omega (arith, v .inv .2, s .pre .2), omega (arith, h), made (c .before .before) ∙ ap (λ x. product (a .m .states) x (besideOf (now (a .first)) (now (a .second)) (v .l))) (s .pre .3 ∙ sym (v .inv .3)))
+    (s .pre .0, v .inv .1, omega (arith, v .inv .2, s .pre .2), omega (arith, c .before .before .before .loop-test .taken), made (c .before .before) ∙ ap (λ x. product (a .m .states) x (besideOf (now (a .first)) (now (a .second)) (v .l))) (s .pre .3 ∙ sym (v .inv .3)))
 
 enum-known-h : tie.Need-enum-known-h Inv-loop μ-loop
 enum-known-h c = search needs
@@ -57,7 +63,7 @@ returns c = rw (c .enum-told .given .1) (rw (c .enum-told .given .1) at (c .befo
 
 add-l : tie.Need-add-l Inv-loop μ-loop
 add-l c =
-    let s = c .before .before .before .before .before .before .before .before .before .before .before .before .before .before in
+    let s = c .before .before .before .before .before .before .before .before .before .before .before .before .before .before .before .before in
     let a = s .args in
     omega (arith, c .before .before .before .before .before .before .before .before .before .loop-test .taken, paired-sizes (now (a .first)) (now (a .second)) (a .m) (s .pre .0) .2)
 
@@ -76,18 +82,21 @@ same-length-2 c = search needs
 returns-2 : tie.Need-returns-2 Inv-loop μ-loop
 returns-2 c =
     let v = c .before .loop in
-    let a = c .before .before .before .before .before .args in
-    let e : v .l ≡ a .m .letters = omega arith in
+    let s = c .before .before .before .before .before .before .before in
+    let a = s .args in
+    let e : v .l ≡ a .m .letters = omega (arith, v .inv .0, c .loop-test .left) in
     (hunting-next (a .stride) (a .m .letters) (besideOf (now (a .first)) (now (a .second))) (a .m .states) (mask (a .m .initial)) (mask (a .m .finals)) (v .b) (v .w) (v .r .count) (a .k) (mask (v .r .pivots)) (mask (v .r .used)) (rw e at (v .inv .1)), v .inv .2)
 
-pub try-each-spec : {M : Type 1} → statement M
-try-each-spec =
+pub try-single-spec : {M : Type 1} → statement M
+try-single-spec =
     tie.close
     (tie.spec
     Inv-loop
     μ-loop
+    shared-slice-read-size
+    size-requires
     loop-holds
-    times-pair-requires
+    times-singles-requires
     try-pair-requires
     enum-known-h
     enum-told
