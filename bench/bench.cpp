@@ -217,9 +217,9 @@ int main(int argc, char** argv) {
     double budget = argc > 1 ? std::atof(argv[1]) : 0.25;
     agree(20000);
     for (int n : {1, 2, 4, 8, 16, 32})
-        for (int a : {1, 2, 8}) time_dense(n, a, budget);
-    for (int n : {4, 32})
-        for (int a : {1, 2, 8}) time_deterministic(n, a, budget);
+        for (int a : {1, 2, 3, 4, 8}) time_dense(n, a, budget);
+    for (int n : {4, 8, 32})
+        for (int a : {1, 2, 3, 4, 8}) time_deterministic(n, a, budget);
     for (int n : {1, 2, 3, 4, 8, 16})
         for (int a : {1, 2, 3, 8}) time_single(n, a, budget / 2);
     time_worst(budget);

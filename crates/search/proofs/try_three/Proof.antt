@@ -32,7 +32,7 @@ loop-holds : tie.Need-loop-holds Inv-loop μ-loop
 loop-holds c = let s = c .before .before .before .before in (omega arith, s .pre .1, omega arith, refl, refl)
 
 pick-requires : tie.Need-pick-requires Inv-loop μ-loop
-pick-requires c κs = c .loop-test .taken
+pick-requires c κs = omega (arith, c .loop-test .taken)
 
 -- The product of the letter at hand.
 made : (c : tie.After-pick Inv-loop μ-loop) → mask (c .pick .result) ≡ product (c .before .before .before .before .before .before .before .args .m .states) (mask (c .before .before .before .before .before .before .before .args .x)) (besideOf (now (c .before .before .before .before .before .before .before .args .first)) (now (c .before .before .before .before .before .before .before .args .second)) (c .before .before .loop .l))
