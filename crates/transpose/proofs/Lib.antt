@@ -3,3 +3,4 @@ pub mod SwapLaws
 pub mod BlockLaws
 pub mod StageLaws
 pub mod TurnLaws
+pub mod CopyLaws

@@ -7,6 +7,7 @@
 --   staged b o q T     that exchange in the pairs whose lower row is o or above, and below q
 --   HasRows l n T s    the first n rows of block l of s are those of T
 --   OnlyBlock l t s    s is a table, and differs from the table t in block l alone
+--   Copied a n t s     s is a table, and has the first n rows of each of the first a blocks of t
 use mathlib.Core.Path.{_≡_}
 use mathlib.Core.Bool.{Bool, _&&_, cond}
 use mathlib.Core.List.{List}
@@ -42,4 +43,8 @@ HasRows l n T s = (r k : ℕ) → r < n → row s l r k ≡ T r k
 
 pub record OnlyBlock (l : ℕ) (t s : List ℕ) : Type 0 where
   pub others : (m i : ℕ) → i < width → (m ≡ l → ⊥) → at s m i ≡ at t m i
+  pub size : length s ≡ size
+
+pub record Copied (a n : ℕ) (t s : List ℕ) : Type 0 where
+  pub rows : (l i : ℕ) → l < a → i < n → at s l i ≡ at t l i
   pub size : length s ≡ size

@@ -9,7 +9,7 @@ ghost use lib.ListN.{length};
 ghost use Rattle.automata.specs.Mask.{bitOf};
 ghost use Rattle.rows.specs.Row.{width, levels, mask, stripes};
 ghost use Rattle.rows.specs.Table.{blocks, size, at, row};
-ghost use Rattle.transpose.specs.Exchange.{padded, exchanged, swapped, staged, HasRows, OnlyBlock};
+ghost use Rattle.transpose.specs.Exchange.{padded, exchanged, swapped, staged, HasRows, OnlyBlock, Copied};
 ghost use Rattle.transpose.specs.Transposed.{Transposed};
 
 // 2 ^ w, as many rows or places.
@@ -134,4 +134,38 @@ pub fn transpose(t: &mut Table, a: usize, n: usize)
         turn(t, l, w);
         l += 1;
     }
+}
+
+// Copies the first n rows of block l of t into c.
+fn copy_rows(t: &Table, l: usize, n: usize, c: &mut Table)
+    requires { ⌜ (l < blocks) × (n ≤ width) × (length (now c) ≡ size) ⌝ }
+    ensures { λ r. ⌜ OnlyBlock l (now (c .entry)) (now (c .exit)) × ((i : ℕ) → i < n → at (now (c .exit)) l i ≡ at (now (t .entry)) l i) ⌝ }
+{
+    let mut i: usize = 0;
+    while i < n {
+        let x = rows::load(t, l, i);
+        rows::store(c, l, i, x);
+        i += 1;
+    }
+}
+
+// Copies the n by n matrices in the first a blocks of t into c.
+fn copy(t: &Table, a: usize, n: usize, c: &mut Table)
+    requires { ⌜ (a ≤ blocks) × (n ≤ width) × (length (now c) ≡ size) ⌝ }
+    ensures { λ r. ⌜ Copied a n (now (t .entry)) (now (c .exit)) ⌝ }
+{
+    let mut l: usize = 0;
+    while l < a {
+        copy_rows(t, l, n, c);
+        l += 1;
+    }
+}
+
+// The transposes of the n by n matrices in the first a blocks of t, in c.
+pub fn transposed(t: &Table, a: usize, n: usize, c: &mut Table)
+    requires { ⌜ (a ≤ blocks) × (n ≤ width) × ((l i : ℕ) → l < a → i < n → at (now t) l i < 2 ^ n) × (length (now c) ≡ size) ⌝ }
+    ensures { λ r. ⌜ Transposed a n (now (t .entry)) (now (c .exit)) ⌝ }
+{
+    copy(t, a, n, c);
+    transpose(c, a, n);
 }
