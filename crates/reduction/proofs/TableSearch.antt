@@ -104,10 +104,27 @@ module _ (σ a : ℕ) (M : ℕ → ℕ → ℕ) (n i f : ℕ) (b : List ℕ) (C 
       (λ r h j. ap (λ v. bitOf v j) (N .row-old r h)) (λ j. ap (λ v. bitOf v j) (N .row-new) ∙ bit-product n (cell σ b 1 k) (M l) j)
       from-old from-new by-old by-new (λ r. ap (λ u. u r) written ∙ N .own r))
 
+  -- It is one or the other; a new row comes from row k by letter l.
+  pub search-placed : Placed σ n d p v (product n (cell σ b 1 k) (M l)) C C′ c b b′ d′ p′ v′ → (from′ : ℕ → ℕ) × (by′ : ℕ → ℕ) × SearchIn σ a M n i f b′ C′ from′ by′ S′ d′ k (l + 1) p′
+  search-placed (inl O) = (from, by, search-old-row O)
+  search-placed (inr N) = (
+    λ r. cond (eqb r d) k (from r),
+    λ r. cond (eqb r d) l (by r),
+    search-new-row (λ r. cond (eqb r d) k (from r)) (λ r. cond (eqb r d) l (by r))
+        (λ r h. if-other r d k (from r) (omega arith)) (if-same d k (from d)) (λ r h. if-other r d l (by r) (omega arith)) (if-same d l (by d)) N,
+  )
+
 -- The products in a table.
 pub searching-step : (a : ℕ) (t : List ℕ) (n i f : ℕ) → Bounded a t n i f → (b s : List ℕ) (d k l p v : ℕ) → Searching a t n i f b s d k l p v → k < d → l < a
     → (y : ℕ) → y ≡ product n (cell width b 1 k) (at t l) → (c d′ p′ v′ : ℕ) (b′ s′ : List ℕ) → Placed width n d p v y (bits width b 2) (bits width b′ 2) (bitOf c) b b′ d′ p′ v′ → s′ ≡ stored s l k c → Searching a t n i f b′ s′ d′ k (l + 1) p′ v′
-searching-step a t n i f ok b s d k l p v G hk hl y hy c d′ p′ v′ b′ s′ P e = go (rw hy at P)
+searching-step a t n i f ok b s d k l p v G hk hl y hy c d′ p′ v′ b′ s′ P e = record {
+  from = next .0;
+  by = next .1;
+  search = next .2;
+  cover = placed-cover width n d p v y (bits width b 2) (bits width b′ 2) (bitOf c) b b′ d′ p′ v′ (G .cover) P;
+  base = placed-length width n d p v y (bits width b 2) (bits width b′ 2) (bitOf c) b b′ d′ p′ v′ P ∙ G .base;
+  out = ap length e ∙ length-stored s l k c ∙ G .out;
+}
   where
     hd : d ≤ width
     hd = omega (arith, count-bound width n d p (bits width b 2) b (G .search .basis), ok .states)
@@ -121,34 +138,8 @@ searching-step a t n i f ok b s d k l p v G hk hl y hy c d′ p′ v′ b′ s�
     written : row s′ l k ≡ bitOf c
     written = ap (λ u. row u l k) e ∙ ap bitOf (stored-same s l k c (G .out) (omega (arith, ha)) (omega (arith, hd)))
 
-    out′ : length s′ ≡ size
-    out′ = ap length e ∙ length-stored s l k c ∙ G .out
-
-    -- Row d comes from row k by letter l.
-    from′ : ℕ → ℕ
-    from′ r = cond (eqb r d) k (G .from r)
-
-    by′ : ℕ → ℕ
-    by′ r = cond (eqb r d) l (G .by r)
-
-    go : Placed width n d p v (product n (cell width b 1 k) (at t l)) (bits width b 2) (bits width b′ 2) (bitOf c) b b′ d′ p′ v′ → Searching a t n i f b′ s′ d′ k (l + 1) p′ v′
-    go (inl O) = record {
-      from = G .from;
-      by = G .by;
-      search = search-old-row width a (at t) n i f b (bits width b 2) (G .from) (G .by) (row s) d k l p (G .search) hk hl v d′ p′ v′ (bits width b′ 2) (bitOf c) b′ (row s′) kept written O;
-      cover = placed-cover width n d p v (product n (cell width b 1 k) (at t l)) (bits width b 2) (bits width b′ 2) (bitOf c) b b′ d′ p′ v′ (G .cover) (inl O);
-      base = placed-length width n d p v (product n (cell width b 1 k) (at t l)) (bits width b 2) (bits width b′ 2) (bitOf c) b b′ d′ p′ v′ (inl O) ∙ G .base;
-      out = out′;
-    }
-    go (inr N) = record {
-      from = from′;
-      by = by′;
-      search = search-new-row width a (at t) n i f b (bits width b 2) (G .from) (G .by) (row s) d k l p (G .search) hk hl v d′ p′ v′ (bits width b′ 2) (bitOf c) b′ (row s′) kept written from′ by′
-          (λ r h. if-other r d k (G .from r) (omega arith)) (if-same d k (G .from d)) (λ r h. if-other r d l (G .by r) (omega arith)) (if-same d l (G .by d)) N;
-      cover = rw (N .count) (N .cover);
-      base = N .size ∙ G .base;
-      out = out′;
-    }
+    next : (from′ : ℕ → ℕ) × (by′ : ℕ → ℕ) × SearchIn width a (at t) n i f b′ (bits width b′ 2) from′ by′ (row s′) d′ k (l + 1) p′
+    next = search-placed width a (at t) n i f b (bits width b 2) (G .from) (G .by) (row s) d k l p (G .search) hk hl v d′ p′ v′ (bits width b′ 2) (bitOf c) b′ (row s′) kept written (rw hy at P)
 
 pub searching-next : (a : ℕ) (t : List ℕ) (n i f : ℕ) (b s : List ℕ) (d k p v : ℕ) → Searching a t n i f b s d k a p v → Searching a t n i f b s d (k + 1) 0 p v
 searching-next a t n i f b s d k p v G = record {
