@@ -16,7 +16,7 @@ use Rattle.automata.specs.Language.{Same}
 use Rattle.automata.specs.Minimal.{Minimal}
 use Rattle.automata.specs.Row.{acceptsFrom, rowAccepts, times, reach, Observable}
 use Rattle.automata.specs.Operations.{mirrorOf}
-use Rattle.automata.specs.Reduction.{rowOf, Spanning, Reduced}
+use Rattle.automata.specs.Reduction.{rowOf, ObservableOn, Spanning, Reduced}
 use Rattle.automata.proofs.Xor.{bool-cases, xor-cong, xor-none, xor-pick, xor-matrix}
 use Rattle.automata.proofs.Shortlex.{over-reverse, shortlex-irrefl, shortlex-trans}
 use Rattle.automata.proofs.Acceptance.{reach-append, from-nil, accepts-row, accepts-append}
@@ -51,6 +51,11 @@ module _ (a : ℕ) (A B : Automaton) (ts : List (List ℕ)) (S : Spanning a A B 
   reach-coordinates [] ow r c h = h
   reach-coordinates (l ∷ w) ow r c h = reach-coordinates w (ow .1) (times A l r) (times B l c) (step-coordinates l (ow .0) r c h)
 
+  -- Every row that a word reaches is an xor of the rows found.
+  pub reach-spanned : (w : List ℕ) → Over a w → (j : ℕ) → j < A .states → reach A (A .initial) w j ≡ comb (length ts) (reach B (B .initial) w) (rowOf A ts) j
+  unfolding Coordinates
+  reach-spanned w ow = reach-coordinates w ow (A .initial) (B .initial) start-coordinates
+
   final-coordinates : (r c : ℕ → Bool) → Coordinates r c → rowAccepts A r [] ≡ rowAccepts B c []
   unfolding Coordinates
   final-coordinates r c h =
@@ -71,7 +76,7 @@ module _ (a : ℕ) (A B : Automaton) (ts : List (List ℕ)) (S : Spanning a A B 
   unfolding Coordinates
   reaches-unit k h i p =
       same-coef (length ts) (rowOf A ts) (S .independent) (reach B (B .initial) (getD ts k [])) (λ i. eqb i k)
-      (λ j q. sym (reach-coordinates (getD ts k []) (S .over k h) (A .initial) (B .initial) start-coordinates j q) ∙ sym (xor-pick (length ts) k h (λ m. rowOf A ts m j))) i p
+      (λ j q. sym (reach-spanned (getD ts k []) (S .over k h) j q) ∙ sym (xor-pick (length ts) k h (λ m. rowOf A ts m j))) i p
 
 -- In the mirror of B every row that is not zero accepts a word.
 mirror-observable : (a : ℕ) (A B : Automaton) (ts : List (List ℕ)) → Spanning a A B ts → Observable a (mirrorOf B)
@@ -128,18 +133,18 @@ module _ (a : ℕ) (A B : Automaton) (bs : List (List ℕ)) (R : Reduced a A B b
           part j p (inl t) = ap (λ b. s .coef j && b) (h j (before j p (s .inside j p t) (decLt j k) (ℕ-discrete j k))) ∙ and-false (s .coef j)
           part j p (inr t) = ap (λ b. b && accepts A (getD bs j [])) t
 
-module _ (a : ℕ) (A B : Automaton) (bs : List (List ℕ)) (O : Observable a A) (R : Reduced a A B bs) where
+module _ (a : ℕ) (A B : Automaton) (bs : List (List ℕ)) (O : ObservableOn a A bs) (R : Reduced a A B bs) where
   certificate : Certificate a (accepts A) B bs
   certificate = record {
     tableau = tableau a A B bs R;
-    independent = λ c z. R .spanning .independent c (O (comb (length bs) c (rowOf A bs)) (λ v ov.
+    independent = λ c z. R .spanning .independent c (O c (λ v ov.
         row-linear A (comb (length bs) c (rowOf A bs)) (length bs) c (rowOf A bs) (λ j p. refl) v
         ∙ xor-cong (length bs) (λ i p. ap (λ b. c i && b) (sym (accepts-append A (getD bs i []) v)))
         ∙ z v ov));
   }
 
-  -- Reducing an observable automaton gives the minimal one.
-  reduced-minimal : Minimal a (accepts A) B bs
+  -- Reducing an automaton that is observable on the rows found gives the minimal one.
+  pub reduced-minimal : Minimal a (accepts A) B bs
   reduced-minimal = certified a (accepts A) B bs certificate
 
 -- Reducing the mirror, and then the mirror of that, gives the minimal automaton.
@@ -147,4 +152,4 @@ pub two-pass : (a : ℕ) (A B C : Automaton) (ts bs : List (List ℕ)) → Spann
 two-pass a A B C ts bs S R =
     minimal-same a (accepts (mirrorOf B)) (accepts A) C bs
     (λ w ow. accepts-mirror B w ∙ sym (spanning-accepts a (mirrorOf A) B ts S (reverse w) (over-reverse a w ow)) ∙ accepts-mirror A (reverse w) ∙ ap (accepts A) (reverse-reverse w))
-    (reduced-minimal a (mirrorOf B) C bs (mirror-observable a (mirrorOf A) B ts S) R)
+    (reduced-minimal a (mirrorOf B) C bs (λ c. mirror-observable a (mirrorOf A) B ts S (comb (length bs) c (rowOf (mirrorOf B) bs))) R)

@@ -7,16 +7,18 @@ use Prim.Native.Nat.{ℕ, _<_}
 use native.Mathlib.Omega.{arith}
 use lib.ListN.{length, getD}
 use Rattle.automata.specs.Automaton.{Automaton, accepts}
+use Rattle.automata.specs.Language.{Same}
 use Rattle.automata.specs.Minimal.{Minimal, SameBits}
 use Rattle.automata.specs.Operations.{sumOf, mirrorOf}
 use Rattle.automata.specs.MinimalOf.{minimalOf, dimensionOf}
 use Rattle.automata.specs.FirstDifference.{firstDifference}
 use Rattle.automata.specs.Fields.{fields}
-use Rattle.automata.specs.Reduction.{Reduced}
+use Rattle.automata.specs.Reduction.{ObservableOn, Reduced}
 use Rattle.automata.specs.Tree.{Tree, wordTo, wordsTo}
 use Rattle.automata.proofs.Xor.{xor-zero}
 use Rattle.automata.proofs.Operations.{accepts-sum}
-use Rattle.automata.proofs.Reduction.{none-accepted, first-accepted, tableau, two-pass}
+use Rattle.automata.proofs.Reduction.{none-accepted, first-accepted, tableau, reduced-minimal, two-pass}
+use Rattle.automata.proofs.Minimal.{minimal-same}
 use Rattle.automata.proofs.Tree.{words-length, words-at, tree-reduced}
 use Rattle.automata.proofs.Dimension.{minimal-is}
 use Rattle.automata.proofs.Fields.{bits-fields}
@@ -57,6 +59,23 @@ module _ (a : ℕ) (A B C : Automaton) (d e : ℕ) (R Q : ℕ → ℕ → Bool) 
   pub trees-dimension : e ≡ dimensionOf a A
   unfolding minimalOf dimensionOf
   trees-dimension = sym (T .size) ∙ minimal-bits .states
+
+-- One search over an automaton B with A's language, observable on the rows found.
+module _ (a : ℕ) (A B C : Automaton) (same : Same a (accepts B) (accepts A)) (d : ℕ) (R : ℕ → ℕ → Bool) (from by : ℕ → ℕ) (T : Tree a B C d R from by) (O : ObservableOn a B (wordsTo from by d)) where
+  -- It gives the minimal automaton, whose basis words are those of the tree.
+  pub tree-minimal : Minimal a (accepts A) C (wordsTo from by d)
+  tree-minimal = minimal-same a (accepts B) (accepts A) C (wordsTo from by d) same (reduced-minimal a B C (wordsTo from by d) O (tree-reduced a B C d R from by T))
+
+  same-bits : SameBits a C (minimalOf a A)
+  same-bits = minimal-is a A C (wordsTo from by d) tree-minimal
+
+  -- It has the fields of minimalOf, and its size is the dimension.
+  pub tree-fields : fields a C ≡ fields a (minimalOf a A)
+  tree-fields = bits-fields a C (minimalOf a A) same-bits
+
+  pub tree-dimension : d ≡ dimensionOf a A
+  unfolding minimalOf dimensionOf
+  tree-dimension = sym (T .size) ∙ same-bits .states
 
 module _ (a : ℕ) (A B C : Automaton) (d : ℕ) (R : ℕ → ℕ → Bool) (from by : ℕ → ℕ) (T : Tree a (sumOf A B) C d R from by) where
   -- C's final column says which of the words found the sum accepts.

@@ -63,6 +63,9 @@ module _ (a : ℕ) (A B : Automaton) (d : ℕ) (R : ℕ → ℕ → Bool) (from 
       go (yes e) ih = subst (λ x. Over a (wordTo from by x)) (sym e) tt
       go (no e) ih = subst (Over a) (sym (word-child r (omega arith) h)) (over-append a (wordTo from by (from r)) (by r ∷ []) (ih (omega (arith, T .parent r (omega arith) h)) (omega (arith, T .parent r (omega arith) h))) (T .letter r (omega arith) h, tt))
 
+  pub tree-over : (r : ℕ) → r < d → Over a (wordTo from by r)
+  tree-over r h = word-over (suc r) r (omega arith) h
+
   word-row : (f r : ℕ) → r < f → r < d → (j : ℕ) → j < A .states → reach A (A .initial) (wordTo from by r) j ≡ R r j
   word-row zero r p h j hj = absurd (not-suc-le-zero p)
   word-row (suc f) r p h j hj = go (ℕ-discrete r 0) (λ u v i hi. word-row f (from r) u v i hi)
@@ -96,7 +99,7 @@ module _ (a : ℕ) (A B : Automaton) (d : ℕ) (R : ℕ → ℕ → Bool) (from 
           (pair-earlier (from k) (by k) (from i) (by i) (λ q. ih (omega (arith, T .parent k (omega arith) hk)) q (omega (arith, T .parent k (omega arith) hk))) (T .order i k (omega arith) h hk))
 
   row-same : (k : ℕ) → k < d → (j : ℕ) → j < A .states → rowOf A (wordsTo from by d) k j ≡ R k j
-  row-same k h j hj = ap (λ u. reach A (A .initial) u j) (words-at from by d k h) ∙ word-row (suc k) k (omega arith) h j hj
+  row-same k h j hj = ap (λ u. reach A (A .initial) u j) (words-at from by d k h) ∙ tree-row k h j hj
 
   not-after : (l k r : ℕ) → k < d → r < d → (r ≡ 0) ⊎ Done k (suc l) (from r) (by r) → Dec (r ≡ 0) → Dec (by r ≡ l) → NotAfter (wordTo from by r) (wordTo from by k ++ (l ∷ []))
   not-after l k r hk hr s (yes e) m = inr (subst (λ x. Shortlex (wordTo from by x) (wordTo from by k ++ (l ∷ []))) (sym e) (nil-shortlex-snoc (wordTo from by k) l))
@@ -110,7 +113,8 @@ module _ (a : ℕ) (A B : Automaton) (d : ℕ) (R : ℕ → ℕ → Bool) (from 
   below : (k : ℕ) → k < length (wordsTo from by d) → k < d
   below k h = subst (λ n. k < n) (words-length from by d) h
 
-  comb-same : (c : ℕ → Bool) (j : ℕ) → j < A .states → comb (length (wordsTo from by d)) c (rowOf A (wordsTo from by d)) j ≡ comb d c R j
+  -- An xor of the rows that the words reach is one of the rows of the tree.
+  pub comb-same : (c : ℕ → Bool) (j : ℕ) → j < A .states → comb (length (wordsTo from by d)) c (rowOf A (wordsTo from by d)) j ≡ comb d c R j
   comb-same c j hj = ap (λ n. comb n c (rowOf A (wordsTo from by d)) j) (words-length from by d) ∙ xor-cong d (λ k p. ap (λ b. c k && b) (row-same k p j hj))
 
   times-same : (l k : ℕ) → k < d → (j : ℕ) → times A l (rowOf A (wordsTo from by d) k) j ≡ times A l (R k) j
@@ -120,7 +124,7 @@ module _ (a : ℕ) (A B : Automaton) (d : ℕ) (R : ℕ → ℕ → Bool) (from 
   pub tree-reduced : Reduced a A B (wordsTo from by d)
   tree-reduced = record {
     spanning = record {
-      over = λ k h. subst (Over a) (sym (words-at from by d k (below k h))) (word-over (suc k) k (omega arith) (below k h));
+      over = λ k h. subst (Over a) (sym (words-at from by d k (below k h))) (tree-over k (below k h));
       independent = λ c z i h. T .independent c (λ j hj. sym (comb-same c j hj) ∙ z j hj) i (below i h);
       first = λ h. words-at from by d 0 (below 0 h);
       empty = λ e. T .empty (sym (words-length from by d) ∙ e);

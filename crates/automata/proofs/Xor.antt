@@ -1,5 +1,5 @@
 -- Laws of xor and of the xor of a finite family.
-use mathlib.Core.Path.{_≡_, refl, sym, ap, _∙_}
+use mathlib.Core.Path.{_≡_, refl, sym, ap, ap₂, _∙_}
 use mathlib.Core.Bool.{Bool, true, false, not, _&&_, cond, and-false, and-comm, and-assoc}
 use mathlib.Core.Logic.{_⊎_, inl, inr, _≢_}
 use Prim.Native.Nat.{ℕ, zero, suc, _+_, _<_}
@@ -124,6 +124,13 @@ eqb-differ {m} {n} h = F-false (eqb m n) (λ t. h (eqb→eq m n t))
     F-false : (b : Bool) → (T b → ⊥) → b ≡ false
     F-false true t = absurd (t tt)
     F-false false t = refl
+
+pub eqb-sym : (m n : ℕ) → eqb m n ≡ eqb n m
+eqb-sym m n = go (ℕ-discrete m n)
+  where
+    go : Dec (m ≡ n) → eqb m n ≡ eqb n m
+    go (yes e) = ap₂ eqb e (sym e)
+    go (no e) = eqb-differ e ∙ sym (eqb-differ (λ f. e (sym f)))
 
 -- The one member that `eqb i p` keeps.
 pub xor-pick : (k p : ℕ) → p < k → (f : ℕ → Bool) → xorBelow k (λ i. eqb i p && f i) ≡ f p

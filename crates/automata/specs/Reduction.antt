@@ -9,11 +9,15 @@ use Rattle.automata.specs.Xor.{xorBelow, comb}
 use Rattle.automata.specs.Automaton.{Automaton}
 use Rattle.automata.specs.Word.{Over, Shortlex, NotAfter}
 use Rattle.automata.specs.Dimension.{Independent}
-use Rattle.automata.specs.Row.{times, reach}
+use Rattle.automata.specs.Row.{rowAccepts, times, reach}
 
 -- The row that A reaches along the k-th word of ts.
 abbrev pub rowOf : Automaton → List (List ℕ) → ℕ → ℕ → Bool
 rowOf A ts k = reach A (A .initial) (getD ts k [])
+
+-- An xor of those rows that accepts nothing is zero.
+abbrev pub ObservableOn : ℕ → Automaton → List (List ℕ) → Type 0
+ObservableOn a A ts = (c : ℕ → Bool) → ((v : List ℕ) → Over a v → rowAccepts A (comb (length ts) c (rowOf A ts)) v ≡ false) → (j : ℕ) → j < A .states → comb (length ts) c (rowOf A ts) j ≡ false
 
 -- B is A on the rows that the words ts reach: they are independent and span every row reached, and B's rows are coordinates in them.
 pub record Spanning (a : ℕ) (A B : Automaton) (ts : List (List ℕ)) : Type 0 where

@@ -67,11 +67,12 @@ module _ (n m : ℕ) (P : ℕ → Bool) (R E C : ℕ → ℕ → Bool) (F : Eche
       last true = refl
       last false = refl
 
-  onto-same : (x y : ℕ → Bool) → ((j : ℕ) → j < n → x j ≡ y j) → (k : ℕ) → onto n P E x k ≡ onto n P E y k
+  -- Only the bits below n are read.
+  pub onto-same : (x y : ℕ → Bool) → ((j : ℕ) → j < n → x j ≡ y j) → (k : ℕ) → onto n P E x k ≡ onto n P E y k
   onto-same x y h k = xor-cong n (λ j g. ap (λ b. (b && P j) && E j k) (h j g))
 
   -- An xor of rows of R is its own part on the pivots.
-  onto-fixed : (d : ℕ → Bool) (k : ℕ) → onto n P E (comb m d R) k ≡ comb m d R k
+  pub onto-fixed : (d : ℕ → Bool) (k : ℕ) → onto n P E (comb m d R) k ≡ comb m d R k
   onto-fixed d k =
       xor-cong n (λ j h. and-assoc (comb m d R j) (P j) (E j k))
       ∙ sym (xor-matrix m n d R (λ j. P j && E j k))

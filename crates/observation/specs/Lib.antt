@@ -1,0 +1,2 @@
+-- What the search over the mirror finds, and the automaton folded by it.
+pub mod Observed
