@@ -1,16 +1,14 @@
 -- The search for the first accepted row, pair by pair.
 use mathlib.Core.Path.{_≡_, refl, sym, ap, subst, _∙_}
-use mathlib.Core.Bool.{Bool, true, false, cond}
+use mathlib.Core.Bool.{Bool, true, false}
 use mathlib.Core.List.{List}
 use mathlib.Core.Logic.{inl, inr}
 use Prim.Native.Nat.{ℕ, _+_, _<_, _≤_}
 use native.Mathlib.Numerals.{add-one}
-use native.Mathlib.Decide.{ℕ-discrete}
 use native.Mathlib.Omega.{arith}
 use lib.ListN.{length}
-use lib.Dec.{eqb}
 use Rattle.automata.specs.Mask.{bitOf}
-use Rattle.automata.proofs.Xor.{xor-none, eqb-same}
+use Rattle.automata.proofs.Xor.{xor-none}
 use Rattle.automata.proofs.Below.{up-to}
 use Rattle.rows.specs.Row.{width}
 use Rattle.rows.specs.Product.{product}
@@ -22,26 +20,9 @@ use Rattle.trail.proofs.LinkLaws.{linked-length, linked-from, linked-by, linked
 use Rattle.elimination.specs.Place.{BasisIn, Old, New, Placed}
 use Rattle.reduction.specs.Tables.{SearchIn, accepted}
 use Rattle.reduction.proofs.SearchLaws.{search-next}
+use Rattle.reduction.proofs.Complete.{withRow, with-kept, with-new}
 use Rattle.reduction.proofs.TableSearch.{count-bound, empty-cover, placed-length, placed-cover, search-start, search-old-row, search-new-row}
 use Rattle.hunt.specs.Hunt.{shared, Hunting, Stopped}
-use Rattle.elimination.proofs.PlaceLaws.{if-same, if-other}
-
--- ---- one more product
-
--- S with v for row k by letter l.
-abbrev pub withRow : (ℕ → ℕ → ℕ → Bool) → ℕ → ℕ → (ℕ → Bool) → ℕ → ℕ → ℕ → Bool
-withRow S k l v x i = cond (eqb x l) (cond (eqb i k) v (S x i)) (S x i)
-
-pub with-kept : (S : ℕ → ℕ → ℕ → Bool) (k l : ℕ) (v : ℕ → Bool) (x i : ℕ) → ((i ≡ k) × (x ≡ l) → ⊥) → withRow S k l v x i ≡ S x i
-with-kept S k l v x i z = go (ℕ-discrete x l) (ℕ-discrete i k)
-  where
-    go : Dec (x ≡ l) → Dec (i ≡ k) → cond (eqb x l) (cond (eqb i k) v (S x i)) (S x i) ≡ S x i
-    go (no e) f = if-other x l (cond (eqb i k) v (S x i)) (S x i) e
-    go (yes e) (no f) = ap (λ b. cond b (cond (eqb i k) v (S x i)) (S x i)) (ap (λ w. eqb w l) e ∙ eqb-same l) ∙ if-other i k v (S x i) f
-    go (yes e) (yes f) = absurd (z (f, e))
-
-pub with-new : (S : ℕ → ℕ → ℕ → Bool) (k l : ℕ) (v : ℕ → Bool) → withRow S k l v l k ≡ v
-with-new S k l v = if-same l (cond (eqb k k) v (S l k)) (S l k) ∙ if-same k v (S l k)
 
 -- ---- the initial row
 

@@ -1,3 +1,4 @@
 pub mod SearchLaws
+pub mod Complete
 pub mod TableSearch
 pub mod MinimiseLaws
