@@ -1,2 +1,3 @@
 -- What the search over the mirror finds, and the automaton folded by it.
 pub mod Observed
+pub mod Explore

@@ -1,1 +1,85 @@
-// The columns of an automaton that words reach, and the automaton folded onto their pivots: definitions in specs/, theorems in proofs/.
+// Which rows of an automaton words tell apart: the search for a basis of the rows that words reach. Over the mirror of an automaton these
+// are the columns that words reach.
+ghost use mathlib.Core.Path.{_≡_};
+ghost use Prim.Native.Nat.{_+_, _≤_, _<_};
+ghost use lib.ListN.{length};
+ghost use Rattle.rows.specs.Row.{width, mask};
+ghost use Rattle.rows.specs.Machine.{Valid};
+ghost use Rattle.basis.specs.Basis.{basisSize};
+ghost use Rattle.observation.specs.Explore.{Exploring, Explored};
+use basis::Basis;
+use basis::WIDEST;
+use elimination::Size;
+use rows::Machine;
+use rows::Table;
+
+// Row k of the basis by every letter, the products in a line.
+fn explore_letters(t: &Table, m: Machine, b: &mut Basis, s: Size, k: usize) -> Size
+    requires { ⌜ Valid (now t) m × Exploring (m .letters) (now t) (m .states) (mask (m .initial)) (mask (m .finals)) (now b) (s .count) k 0 (mask (s .pivots)) (mask (s .used)) × (k < s .count) ⌝ }
+    ensures { λ r. ⌜ Exploring (m .letters) (now (t .entry)) (m .states) (mask (m .initial)) (mask (m .finals)) (now (b .exit)) (r .count) (k + 1) 0 (mask (r .pivots)) (mask (r .used)) × (s .count ≤ r .count) ⌝ }
+{
+    let a = m.letters;
+    let x = basis::get(b, WIDEST, 1, k);
+    let mut y = [0u64; 8];
+    kernels::times_all(t, a, x, &mut y);
+    let mut r = s;
+    let mut l: usize = 0;
+    while l < a {
+        let z = kernels::pick(&y, l);
+        r = elimination::insert(b, WIDEST, m.states, r, z);
+        l += 1;
+    }
+    r
+}
+
+// Row k by every letter. Over one letter there is no line.
+fn explore_row(t: &Table, m: Machine, b: &mut Basis, s: Size, k: usize) -> Size
+    requires { ⌜ Valid (now t) m × Exploring (m .letters) (now t) (m .states) (mask (m .initial)) (mask (m .finals)) (now b) (s .count) k 0 (mask (s .pivots)) (mask (s .used)) × (k < s .count) ⌝ }
+    ensures { λ r. ⌜ Exploring (m .letters) (now (t .entry)) (m .states) (mask (m .initial)) (mask (m .finals)) (now (b .exit)) (r .count) (k + 1) 0 (mask (r .pivots)) (mask (r .used)) × (s .count ≤ r .count) ⌝ }
+{
+    if m.letters == 1 {
+        let x = basis::get(b, WIDEST, 1, k);
+        let y = rows::times(t, 0, x);
+        return elimination::insert(b, WIDEST, m.states, s, y);
+    }
+    explore_letters(t, m, b, s, k)
+}
+
+// Every row by every letter, first in, first out. As many rows as there are states span every row, so that no product is needed then.
+fn explore_rows(t: &Table, m: Machine, b: &mut Basis, s: Size) -> Size
+    requires { ⌜ Valid (now t) m × Exploring (m .letters) (now t) (m .states) (mask (m .initial)) (mask (m .finals)) (now b) (s .count) 0 0 (mask (s .pivots)) (mask (s .used)) ⌝ }
+    ensures { λ r. ⌜ Explored (m .letters) (now (t .entry)) (m .states) (mask (m .initial)) (mask (m .finals)) (now (b .exit)) (r .count) (mask (r .pivots)) (mask (r .used)) ⌝ }
+{
+    let n = m.states;
+    let mut r = s;
+    let mut k: usize = 0;
+    while k < r.count {
+        if r.count == n {
+            return r;
+        }
+        r = explore_row(t, m, b, r, k);
+        k += 1;
+    }
+    r
+}
+
+// A basis of the rows that words reach, left in b.
+pub fn explore(t: &Table, m: Machine, b: &mut Basis) -> Size
+    requires { ⌜ Valid (now t) m × (length (now b) ≡ basisSize) ⌝ }
+    ensures { λ r. ⌜ Explored (m .letters) (now (t .entry)) (m .states) (mask (m .initial)) (mask (m .finals)) (now (b .exit)) (r .count) (mask (r .pivots)) (mask (r .used)) ⌝ }
+{
+    let i = m.initial;
+    let none = rows::none();
+    let s = elimination::insert(
+        b,
+        WIDEST,
+        m.states,
+        Size {
+            count: 0,
+            pivots: none,
+            used: none,
+        },
+        i,
+    );
+    explore_rows(t, m, b, s)
+}

@@ -1,0 +1,113 @@
+-- `explore_letters`: the letters below l are done; row k stays, so that the line keeps its products.
+use mathlib.Core.Path.{_≡_, refl, sym, ap, subst, _∙_}
+use Prim.Native.Nat.{_-_, _^_, _≤_, _<_}
+use native.Mathlib.Omega.{arith}
+use Rattle.rows.specs.Row.{width, mask}
+use Rattle.rows.specs.Table.{at}
+use Rattle.rows.specs.Product.{product}
+use Rattle.rows.proofs.ProductLaws.{product-lt}
+use Rattle.basis.specs.Basis.{cell, bits}
+use Rattle.kernels.specs.Products.{Products}
+use Rattle.reduction.proofs.TableSearch.{found-low}
+use Rattle.observation.specs.Explore.{Exploring}
+use Rattle.observation.proofs.ExploreLaws.{exploring-step, exploring-next, exploring-bound}
+use Rattle.observation.proofs.explore_letters.Statement.{statement}
+use Rattle.observation.proofs.explore_letters.Tie as tie
+
+abbrev Inv-loop : tie.InvT-loop
+Inv-loop t m b₀ k a y r₀ l₀ b r l = (l ≤ m .letters) × Exploring (m .letters) t (m .states) (mask (m .initial)) (mask (m .finals)) b (r .count) k l (mask (r .pivots)) (mask (r .used)) × (r₀ .count ≤ r .count) × (cell width b 1 k ≡ cell width b₀ 1 k)
+
+abbrev μ-loop : tie.MeasureT-loop
+μ-loop t m b₀ k a y r₀ l₀ b r l = m .letters - l
+
+-- Row k stands in the basis.
+below : (s : tie.Start Inv-loop μ-loop) → s .args .k < width
+below s =
+    let a = s .args in
+    omega (arith, exploring-bound (a .m .letters) (a .t .now) (a .m .states) (mask (a .m .initial)) (mask (a .m .finals)) (s .pre .0) (a .b .now) (a .s .count) (a .k) 0 (mask (a .s .pivots)) (mask (a .s .used)) (s .pre .1), s .pre .2)
+
+-- The line has the products of row k.
+made : (c : tie.After-times-all Inv-loop μ-loop) → Products (c .before .before .before .before .before .args .m .letters) (c .before .before .before .before .before .args .m .states) (cell width (c .before .before .before .before .before .args .b .now) 1 (c .before .before .before .before .before .args .k)) (at (c .before .before .before .before .before .args .t .now)) (c .times-all .last .1 .1 .1 .0)
+made c =
+    let s = c .before .before .before .before .before in
+    let a = s .args in
+    let n = a .m .states in
+    let e = c .before .before .get .ensures in
+    let h = found-low width n (a .s .count) (mask (a .s .pivots)) (s .pre .1 .coef) (a .b .now) (s .pre .1 .search .basis) (a .k) (s .pre .2) in
+    subst (λ x. Products (a .m .letters) n x (at (a .t .now)) (c .times-all .last .1 .1 .1 .0)) e (c .times-all .ensures n (subst (λ x. x < 2 ^ n) (sym e) h))
+
+get-requires : tie.Need-get-requires Inv-loop μ-loop
+get-requires c κs = (omega (arith, c .before .before .pre .1 .base), omega arith, below (c .before .before))
+
+times-all-requires : tie.Need-times-all-requires Inv-loop μ-loop
+times-all-requires c κs = (c .before .before .before .before .pre .0 .letters, refl)
+
+loop-holds : tie.Need-loop-holds Inv-loop μ-loop
+loop-holds c = (omega arith, c .before .before .before .before .before .pre .1, omega arith, refl)
+
+pick-requires : tie.Need-pick-requires Inv-loop μ-loop
+pick-requires c κs = omega (arith, c .before .loop-test .taken, c .before .before .before .before .before .before .before .before .pre .0 .letters)
+
+-- The product in the line is that of row k, which stays, and as short as the rows of the matrix.
+product-is : (c : tie.After-insert-arg Inv-loop μ-loop) → mask (c .before .pick .result) ≡ product (c .before .before .before .before .before .before .before .before .before .before .args .m .states) (cell width (c .before .before .before .before .loop .b) 1 (c .before .before .before .before .before .before .before .before .before .before .args .k)) (at (c .before .before .before .before .before .before .before .before .before .before .args .t .now) (c .before .before .before .before .loop .l))
+product-is c =
+    let v = c .before .before .before .before .loop in
+    let y = c .before .before .before .before .before in
+    let a = y .before .before .before .before .before .args in
+    c .before .pick .ensures ∙ made y (v .l) (omega (arith, c .before .before .before .loop-test .taken)) ∙ ap (λ x. product (a .m .states) x (at (a .t .now) (v .l))) (sym (v .inv .3))
+
+low : (c : tie.After-insert-arg Inv-loop μ-loop) → mask (c .before .pick .result) < 2 ^ c .before .before .before .before .before .before .before .before .before .before .args .m .states
+low c =
+    let v = c .before .before .before .before .loop in
+    let s = c .before .before .before .before .before .before .before .before .before .before in
+    let a = s .args in
+    let n = a .m .states in
+    subst (λ y. y < 2 ^ n) (sym (product-is c)) (product-lt n n (cell width (v .b) 1 (a .k)) (at (a .t .now) (v .l)) (λ i h. s .pre .0 .rows (v .l) i (omega (arith, c .before .before .before .loop-test .taken)) h))
+
+insert-requires : tie.Need-insert-requires Inv-loop μ-loop
+insert-requires c κs =
+    let v = c .before .before .before .before .loop in
+    let y = c .before .before .before .before .before in
+    let s = y .before .before .before .before .before in
+    (s .pre .0 .states, s .pre .0 .states, omega (arith, v .inv .1 .base), low c, (v .inv .1 .coef, v .inv .1 .search .basis), v .inv .1 .cover)
+
+add-l : tie.Need-add-l Inv-loop μ-loop
+add-l c = omega (arith, c .before .before .before .before .loop-test .taken, c .before .before .before .before .before .before .before .before .before .before .before .pre .0 .letters)
+
+loop-less : tie.Need-loop-less Inv-loop μ-loop
+loop-less c = omega (arith, c .before .before .before .before .loop-test .taken)
+
+loop-again : tie.Need-loop-again Inv-loop μ-loop
+loop-again c =
+    let v = c .before .before .before .before .before .loop in
+    let s = c .before .before .before .before .before .before .before .before .before .before .before in
+    let a = s .args in
+    let m = a .m in
+    let r = c .insert .result in
+    let G = exploring-step (m .letters) (a .t .now) (m .states) (mask (m .initial)) (mask (m .finals)) (v .b) (v .r .count) (a .k) (v .l) (mask (v .r .pivots)) (mask (v .r .used)) (v .inv .1)
+    (omega (arith, v .inv .2, s .pre .2)) (omega (arith, c .before .before .before .before .loop-test .taken)) (mask (c .before .before .pick .result)) (product-is (c .before)) (c .insert .last .0) (r .count) (mask (r .pivots)) (mask (r .used)) (c .insert .ensures) in
+    (omega (arith, c .before .before .before .before .loop-test .taken), G .0, omega (arith, G .1, v .inv .2), G .2 ∙ v .inv .3)
+
+returns : tie.Need-returns Inv-loop μ-loop
+returns c =
+    let v = c .before .loop in
+    let a = c .before .before .before .before .before .before .before .args in
+    let m = a .m in
+    let e : v .l ≡ m .letters = omega arith in
+    (exploring-next (m .letters) (a .t .now) (m .states) (mask (m .initial)) (mask (m .finals)) (v .b) (v .r .count) (a .k) (mask (v .r .pivots)) (mask (v .r .used)) (rw e at (v .inv .1)), v .inv .2)
+
+pub explore-letters-spec : {M : Type 1} → statement M
+explore-letters-spec =
+    tie.close
+    (tie.spec
+    Inv-loop
+    μ-loop
+    get-requires
+    times-all-requires
+    loop-holds
+    pick-requires
+    insert-requires
+    add-l
+    loop-less
+    loop-again
+    returns)
