@@ -18,7 +18,7 @@ use Rattle.record.specs.Record.{statesOf, lettersOf, checkOf, WellFormed, autom
 use Rattle.rows.specs.declared.Machine.{Machine}
 use Rattle.rows.specs.Row.{mask}
 use Rattle.rows.specs.Machine.{automatonIn}
-use Rattle.reduction.specs.Tables.{Minimises}
+use Rattle.minimisation.specs.Minimises.{Minimises}
 use Rattle.record.specs.Bytes.{number}
 use Rattle.record.specs.Outcome.{Outcome, refused, wrote, answerOf, bufferOf, refusalOf, fit}
 use Rattle.record.specs.declared.Checked.the-variants.{Refused}

@@ -11,7 +11,7 @@ ghost use Rattle.automata.specs.Minimal.{Minimal};
 ghost use Rattle.automata.specs.MinimalOf.{dimensionOf};
 ghost use Rattle.rows.specs.Row.{mask};
 ghost use Rattle.rows.specs.Table.{size};
-ghost use Rattle.reduction.specs.Tables.{Minimises};
+ghost use Rattle.minimisation.specs.Minimises.{Minimises};
 ghost use Rattle.record.specs.Record.{statesOf, lettersOf, WellFormed, automatonOf, languageOf, rowBytes, initialAt, finalAt};
 ghost use Rattle.record.specs.Bytes.{number};
 ghost use Rattle.record.specs.Outcome.{answerOf, bufferOf};
@@ -61,9 +61,9 @@ pub fn minimal_form(bytes: &[u8], out: &mut Table) -> Machine
     ensures { λ r. ⌜ (r .letters ≡ lettersOf (now (bytes .entry))) × Minimises (lettersOf (now (bytes .entry))) (automatonOf (now (bytes .entry))) (now (out .exit)) (r .states) (mask (r .initial)) (mask (r .finals)) ⌝ }
 {
     let mut b = [0u64; 192];
-    let mut c = [0u64; 512];
-    let m = codec::read(bytes, out);
-    reduction::minimise(out, m, &mut b, &mut c)
+    let mut t = [0u64; 512];
+    let m = codec::read(bytes, &mut t);
+    minimisation::minimise(&mut t, m, &mut b, out)
 }
 
 // Writes the minimal record of a record. Where it is granted with length n and dimension d, of the first n bytes of the buffer:

@@ -20,7 +20,7 @@ use Rattle.rows.specs.Table.{blocks, at, stored}
 use Rattle.rows.specs.Beside.{beside}
 use Rattle.rows.specs.Machine.{auto, automatonIn, Bounded, Valid}
 use Rattle.transpose.specs.Transposed.{Transposed}
-use Rattle.reduction.proofs.MinimiseLaws.{transposed-bounded, transposed-bits}
+use Rattle.minimisation.proofs.MinimiseLaws.{transposed-bounded, transposed-bits}
 use Rattle.direct_sum.specs.Filled.{Filled}
 use Rattle.direct_sum.proofs.Filling.{filling-start, filling-step, filling-end}
 use Rattle.direct_sum.proofs.SumLaws.{sum-bounded, sum-bits}

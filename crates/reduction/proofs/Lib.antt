@@ -1,4 +1,3 @@
 pub mod SearchLaws
 pub mod Complete
 pub mod TableSearch
-pub mod MinimiseLaws

@@ -4,17 +4,13 @@
 --   SearchIn     the search before the pair (k, l), with d rows found and the pivots p
 --   Searching    the same, the products in a table; v has every bit that a row found has
 --   Reduces      s is the automaton on the rows that b holds: the list of basis words is their tree
---   Minimises    s is the minimal automaton
 use mathlib.Core.Path.{_≡_}
 use mathlib.Core.Bool.{Bool, _&&_}
 use mathlib.Core.List.{List}
 use Prim.Native.Nat.{ℕ, _<_}
 use lib.ListN.{length}
 use Rattle.automata.specs.Xor.{xorBelow}
-use Rattle.automata.specs.Automaton.{Automaton}
 use Rattle.automata.specs.Mask.{bitOf}
-use Rattle.automata.specs.MinimalOf.{minimalOf, dimensionOf}
-use Rattle.automata.specs.Fields.{fields}
 use Rattle.automata.specs.Tree.{Tree}
 use Rattle.rows.specs.Row.{width}
 use Rattle.rows.specs.Table.{size, at, row}
@@ -49,8 +45,3 @@ pub record Reduces (a : ℕ) (t : List ℕ) (n i f : ℕ) (b s : List ℕ) (d i�
   pub tree : Tree a (auto t n i f) (auto s d i′ f′) d (bits width b 1) from by
   pub bounded : Bounded a s d i′ f′
   pub base : length b ≡ basisSize
-
-pub record Minimises (a : ℕ) (A : Automaton) (s : List ℕ) (d i f : ℕ) : Type 0 where
-  pub bounded : Bounded a s d i f
-  pub same-fields : fields a (auto s d i f) ≡ fields a (minimalOf a A)
-  pub dimension : d ≡ dimensionOf a A

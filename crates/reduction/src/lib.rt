@@ -1,14 +1,13 @@
-// The reduction of a xor automaton: its rows in the order of their words, the automaton in those coordinates, the minimal automaton
-// by two reductions.
+// The reduction of a xor automaton: its rows in the order of their words, and the automaton in those coordinates.
 ghost use mathlib.Core.Path.{_≡_};
 ghost use Prim.Native.Nat.{ℕ, _+_, _^_, _≤_, _<_};
 ghost use lib.ListN.{length};
 ghost use Rattle.rows.specs.Row.{width, mask};
 ghost use Rattle.rows.specs.Table.{size, at};
-ghost use Rattle.rows.specs.Machine.{automatonIn, Valid};
+ghost use Rattle.rows.specs.Machine.{Valid};
 ghost use Rattle.rows.specs.Product.{product};
 ghost use Rattle.basis.specs.Basis.{basisSize, cell};
-ghost use Rattle.reduction.specs.Tables.{Searching, Column, Reduces, Minimises};
+ghost use Rattle.reduction.specs.Tables.{Searching, Column, Reduces};
 use basis::Basis;
 use basis::WIDEST;
 use elimination::Size;
@@ -131,43 +130,4 @@ pub fn reduce(t: &Table, m: Machine, b: &mut Basis, out: &mut Table) -> Machine
         initial: row,
         finals: c,
     }
-}
-
-// The minimal automaton, its rows in t: the reduction of the mirror, and then that of the mirror of the result. The basis b and the table c
-// are for work.
-pub fn minimise(t: &mut Table, m: Machine, b: &mut Basis, c: &mut Table) -> Machine
-    requires { ⌜ Valid (now t) m × (length (now b) ≡ basisSize) × (length (now c) ≡ size) ⌝ }
-    ensures { λ r. ⌜ (r .letters ≡ m .letters) × Minimises (m .letters) (automatonIn (now (t .entry)) m) (now (t .exit)) (r .states) (mask (r .initial)) (mask (r .finals)) ⌝ }
-{
-    let a = m.letters;
-    let n = m.states;
-    transpose::transpose(t, a, n);
-    let i = m.initial;
-    let f = m.finals;
-    let g = reduce(
-        t,
-        Machine {
-            states: n,
-            letters: a,
-            initial: f,
-            finals: i,
-        },
-        b,
-        c,
-    );
-    let d = g.states;
-    transpose::transpose(c, a, d);
-    let j = g.initial;
-    let h = g.finals;
-    reduce(
-        c,
-        Machine {
-            states: d,
-            letters: a,
-            initial: h,
-            finals: j,
-        },
-        b,
-        t,
-    )
 }

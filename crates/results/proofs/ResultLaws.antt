@@ -19,7 +19,7 @@ use Rattle.rows.specs.declared.Machine.{Machine}
 use Rattle.rows.specs.Row.{mask}
 use Rattle.rows.specs.Machine.{automatonIn}
 use Rattle.rows.proofs.BesideLaws.{if-low, if-high}
-use Rattle.reduction.specs.Tables.{Minimises}
+use Rattle.minimisation.specs.Minimises.{Minimises}
 use Rattle.record.specs.Record.{maxStates, maxLetters, statesOf, automatonOf, encode}
 use Rattle.record.specs.Outcome.{Outcome, refused, wrote, answerOf, bufferOf, fit}
 use Rattle.record.specs.declared.Written.{Written}

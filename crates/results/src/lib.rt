@@ -11,7 +11,7 @@ use rows::Table;
 
 const MAX_STATES: usize = 32;
 
-// The minimal record of the automaton of t and m, or refusal 11 or 12; t is left with the rows of the minimal automaton.
+// The minimal record of the automaton of t and m, or refusal 11 or 12; the rows of t are folded.
 pub fn finish(t: &mut Table, m: Machine, out: &mut [u8]) -> Written
     requires { ⌜ Valid (now t) m ⌝ }
     ensures answer { λ r. ⌜ r ≡ answerOf (resultOf (m .letters) (automatonIn (now (t .entry)) m) (length (now (out .entry)))) ⌝ }
@@ -19,7 +19,7 @@ pub fn finish(t: &mut Table, m: Machine, out: &mut [u8]) -> Written
 {
     let mut b = [0u64; 192];
     let mut c = [0u64; 512];
-    let g = reduction::minimise(t, m, &mut b, &mut c);
+    let g = minimisation::minimise(t, m, &mut b, &mut c);
     let d = g.states;
     if MAX_STATES < d {
         return Written::Refused {
@@ -28,7 +28,7 @@ pub fn finish(t: &mut Table, m: Machine, out: &mut [u8]) -> Written
             place: d,
         };
     }
-    codec::write(t, g, out)
+    codec::write(&c, g, out)
 }
 
 // A refusal of the checks, as the answer of an operation.

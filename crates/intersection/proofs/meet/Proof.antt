@@ -8,7 +8,7 @@ use lib.ListN.{length}
 use Rattle.automata.specs.MinimalOf.{dimensionOf}
 use Rattle.rows.specs.Row.{mask}
 use Rattle.rows.specs.Machine.{Bounded}
-use Rattle.reduction.specs.Tables.{Minimises}
+use Rattle.minimisation.specs.Minimises.{Minimises}
 use Rattle.record.specs.Record.{lettersOf, automatonOf}
 use Rattle.record.specs.declared.Written.the-variants.{Refused}
 use Rattle.operands.proofs.PairLaws.{both-passed}

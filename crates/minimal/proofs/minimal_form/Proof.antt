@@ -4,8 +4,8 @@ use denote.Ref.{now}
 use Rattle.automata.proofs.Minimal.{bits-language}
 use Rattle.rows.specs.Row.{mask}
 use Rattle.rows.specs.Machine.{automatonIn}
-use Rattle.reduction.specs.Tables.{Minimises}
-use Rattle.reduction.proofs.MinimiseLaws.{minimises-same}
+use Rattle.minimisation.specs.Minimises.{Minimises}
+use Rattle.minimisation.proofs.MinimiseLaws.{minimises-same}
 use Rattle.record.specs.Record.{lettersOf, automatonOf}
 use Rattle.record.proofs.Held.{bits-held}
 use borrow.Author.Needs.{needs}
@@ -16,7 +16,7 @@ read-requires : tie.Need-read-requires
 read-requires c κs = search needs
 
 minimise-requires : tie.Need-minimise-requires
-minimise-requires c κs = (c .before .before .before .read .ensures .valid, refl, refl)
+minimise-requires c κs = (c .before .before .before .read .ensures .valid, refl, c .before .before .before .before .before .before .pre .1)
 
 returns : tie.Need-returns
 returns c =
@@ -25,7 +25,7 @@ returns c =
     let t = k .read .last .1 .0 in
     let m = k .read .result in
     let h = k .read .ensures in
-    let s = c .minimise .last .0 in
+    let s = c .minimise .last .1 .1 .1 .0 in
     let r = c .minimise .result in
     let e = c .minimise .ensures in (
       e .0 ∙ h .letters,

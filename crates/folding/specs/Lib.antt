@@ -1,0 +1,2 @@
+-- The definitions that the contracts on folding cite.
+pub mod Folding

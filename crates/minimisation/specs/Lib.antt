@@ -1,0 +1,2 @@
+-- The definitions that the contract of the minimal automaton cites.
+pub mod Minimises

@@ -1,0 +1,14 @@
+-- The minimal automaton as a table holds it.
+--   Minimises a A s d i f    the table s with d states, initial row i and final column f is the minimal automaton of A
+use mathlib.Core.Path.{_≡_}
+use mathlib.Core.List.{List}
+use Prim.Native.Nat.{ℕ}
+use Rattle.automata.specs.Automaton.{Automaton}
+use Rattle.automata.specs.MinimalOf.{minimalOf, dimensionOf}
+use Rattle.automata.specs.Fields.{fields}
+use Rattle.rows.specs.Machine.{auto, Bounded}
+
+pub record Minimises (a : ℕ) (A : Automaton) (s : List ℕ) (d i f : ℕ) : Type 0 where
+  pub bounded : Bounded a s d i f
+  pub same-fields : fields a (auto s d i f) ≡ fields a (minimalOf a A)
+  pub dimension : d ≡ dimensionOf a A

@@ -1,0 +1,46 @@
+// The minimal automaton: the columns that words reach tell which states to fold, and one reduction of the folded automaton does the rest.
+ghost use mathlib.Core.Path.{_≡_};
+ghost use lib.ListN.{length};
+ghost use Rattle.rows.specs.Row.{mask};
+ghost use Rattle.rows.specs.Table.{size};
+ghost use Rattle.rows.specs.Machine.{automatonIn, Valid};
+ghost use Rattle.basis.specs.Basis.{basisSize};
+ghost use Rattle.minimisation.specs.Minimises.{Minimises};
+use basis::Basis;
+use rows::Machine;
+use rows::Table;
+
+// The minimal automaton of t and m, its rows in c. The rows of t are folded, and the basis b is for work.
+pub fn minimise(t: &mut Table, m: Machine, b: &mut Basis, c: &mut Table) -> Machine
+    requires { ⌜ Valid (now t) m × (length (now b) ≡ basisSize) × (length (now c) ≡ size) ⌝ }
+    ensures { λ r. ⌜ (r .letters ≡ m .letters) × Minimises (m .letters) (automatonIn (now (t .entry)) m) (now (c .exit)) (r .states) (mask (r .initial)) (mask (r .finals)) ⌝ }
+{
+    let a = m.letters;
+    let n = m.states;
+    let i = m.initial;
+    let f = m.finals;
+    transpose::transposed(t, a, n, c);
+    let s = observation::explore(
+        c,
+        Machine {
+            states: n,
+            letters: a,
+            initial: f,
+            finals: i,
+        },
+        b,
+    );
+    let p = s.pivots;
+    let x = folding::fold(b, p, t, m);
+    reduction::reduce(
+        t,
+        Machine {
+            states: n,
+            letters: a,
+            initial: x,
+            finals: f,
+        },
+        b,
+        c,
+    )
+}
