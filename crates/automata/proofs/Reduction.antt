@@ -1,9 +1,9 @@
--- The two-pass reduction: an automaton on independent reachable rows, taken of the mirror and then of the mirror of that,
--- is the minimal automaton.
-use mathlib.Core.Path.{_≡_, refl, sym, ap, ap₂, subst, _∙_}
-use mathlib.Core.Bool.{Bool, true, false, _&&_, and-comm, and-false}
+-- The reduction of an automaton: every row that a word reaches is an xor of the rows found, the first word accepted is among theirs, and
+-- where the automaton is observable on them the result is minimal.
+use mathlib.Core.Path.{_≡_, refl, sym, ap, subst, _∙_}
+use mathlib.Core.Bool.{Bool, true, false, _&&_, and-false}
 use mathlib.Core.Logic.{_⊎_, inl, inr}
-use mathlib.Core.List.{List, [], _∷_, _++_, append-nil, reverse, reverse-reverse}
+use mathlib.Core.List.{List, [], _∷_, _++_, append-nil}
 use Prim.Native.Nat.{ℕ, _<_}
 use native.Mathlib.Decide.{ℕ-discrete, decLt}
 use native.Mathlib.Omega.{arith}
@@ -12,16 +12,12 @@ use lib.ListN.{length, getD}
 use Rattle.automata.specs.Xor.{xorBelow, comb}
 use Rattle.automata.specs.Automaton.{Automaton, accepts}
 use Rattle.automata.specs.Word.{Over, Shortlex, NotAfter}
-use Rattle.automata.specs.Language.{Same}
 use Rattle.automata.specs.Minimal.{Minimal}
-use Rattle.automata.specs.Row.{acceptsFrom, rowAccepts, times, reach, Observable}
-use Rattle.automata.specs.Operations.{mirrorOf}
+use Rattle.automata.specs.Row.{acceptsFrom, times, reach}
 use Rattle.automata.specs.Reduction.{rowOf, ObservableOn, Spanning, Reduced}
 use Rattle.automata.proofs.Xor.{bool-cases, xor-cong, xor-none, xor-pick, xor-matrix}
-use Rattle.automata.proofs.Shortlex.{over-reverse, shortlex-irrefl, shortlex-trans}
+use Rattle.automata.proofs.Shortlex.{shortlex-irrefl, shortlex-trans}
 use Rattle.automata.proofs.Acceptance.{reach-append, from-nil, accepts-row, accepts-append}
-use Rattle.automata.proofs.Operations.{mirror-from, accepts-mirror}
-use Rattle.automata.proofs.Minimal.{same-coef, minimal-same}
 use Rattle.automata.proofs.ShortWords.{row-linear}
 use Rattle.automata.proofs.Certificate.{not-after-before, Reached, reached, Tableau, Certificate, certified}
 
@@ -55,40 +51,6 @@ module _ (a : ℕ) (A B : Automaton) (ts : List (List ℕ)) (S : Spanning a A B 
   pub reach-spanned : (w : List ℕ) → Over a w → (j : ℕ) → j < A .states → reach A (A .initial) w j ≡ comb (length ts) (reach B (B .initial) w) (rowOf A ts) j
   unfolding Coordinates
   reach-spanned w ow = reach-coordinates w ow (A .initial) (B .initial) start-coordinates
-
-  final-coordinates : (r c : ℕ → Bool) → Coordinates r c → rowAccepts A r [] ≡ rowAccepts B c []
-  unfolding Coordinates
-  final-coordinates r c h =
-      xor-cong (A .states) (λ j p. ap₂ _&&_ (h j p) (from-nil A j))
-      ∙ sym (xor-matrix (length ts) (A .states) c (rowOf A ts) (A .final))
-      ∙ xor-cong (length ts) (λ k p. ap (λ b. c k && b) (sym (S .ends k p) ∙ sym (from-nil B k)))
-      ∙ ap (λ n. xorBelow n (λ k. c k && acceptsFrom B [] k)) (sym (S .size))
-
-  -- The two accept the same words.
-  spanning-accepts : Same a (accepts A) (accepts B)
-  spanning-accepts w ow =
-      ap (accepts A) (sym (append-nil w)) ∙ accepts-append A w []
-      ∙ final-coordinates (reach A (A .initial) w) (reach B (B .initial) w) (reach-coordinates w ow (A .initial) (B .initial) start-coordinates)
-      ∙ sym (accepts-append B w []) ∙ ap (accepts B) (append-nil w)
-
-  -- Along the k-th word B reaches state k alone.
-  reaches-unit : (k : ℕ) → k < length ts → (i : ℕ) → i < length ts → reach B (B .initial) (getD ts k []) i ≡ eqb i k
-  unfolding Coordinates
-  reaches-unit k h i p =
-      same-coef (length ts) (rowOf A ts) (S .independent) (reach B (B .initial) (getD ts k [])) (λ i. eqb i k)
-      (λ j q. sym (reach-spanned (getD ts k []) (S .over k h) j q) ∙ sym (xor-pick (length ts) k h (λ m. rowOf A ts m j))) i p
-
--- In the mirror of B every row that is not zero accepts a word.
-mirror-observable : (a : ℕ) (A B : Automaton) (ts : List (List ℕ)) → Spanning a A B ts → Observable a (mirrorOf B)
-mirror-observable a A B ts S r h k p =
-    sym
-    (xor-cong (B .states) (λ i q. and-comm (r i) (acceptsFrom (mirrorOf B) (reverse (getD ts k [])) i)
-    ∙ ap (λ b. b && r i) (mirror-from B (reverse (getD ts k [])) i ∙ ap (λ u. reach B (B .initial) u i) (reverse-reverse (getD ts k [])) ∙ reaches-unit a A B ts S k kt i (rw (S .size) at q)))
-    ∙ xor-pick (B .states) k p r)
-    ∙ h (reverse (getD ts k [])) (over-reverse a (getD ts k []) (S .over k kt))
-  where
-    kt : k < length ts
-    kt = rw (S .size) at p
 
 module _ (a : ℕ) (A B : Automaton) (bs : List (List ℕ)) (R : Reduced a A B bs) where
   pub tableau : Tableau a (accepts A) B bs
@@ -146,10 +108,3 @@ module _ (a : ℕ) (A B : Automaton) (bs : List (List ℕ)) (O : ObservableOn a 
   -- Reducing an automaton that is observable on the rows found gives the minimal one.
   pub reduced-minimal : Minimal a (accepts A) B bs
   reduced-minimal = certified a (accepts A) B bs certificate
-
--- Reducing the mirror, and then the mirror of that, gives the minimal automaton.
-pub two-pass : (a : ℕ) (A B C : Automaton) (ts bs : List (List ℕ)) → Spanning a (mirrorOf A) B ts → Reduced a (mirrorOf B) C bs → Minimal a (accepts A) C bs
-two-pass a A B C ts bs S R =
-    minimal-same a (accepts (mirrorOf B)) (accepts A) C bs
-    (λ w ow. accepts-mirror B w ∙ sym (spanning-accepts a (mirrorOf A) B ts S (reverse w) (over-reverse a w ow)) ∙ accepts-mirror A (reverse w) ∙ ap (accepts A) (reverse-reverse w))
-    (reduced-minimal a (mirrorOf B) C bs (λ c. mirror-observable a (mirrorOf A) B ts S (comb (length bs) c (rowOf (mirrorOf B) bs))) R)

@@ -1,4 +1,4 @@
--- What the trees of a reduction, as a program holds them, show: the minimal automaton's fields, its dimension, and the first difference.
+-- What the tree of a reduction, as a program holds it, shows: the minimal automaton's fields, its dimension, and the first difference.
 use mathlib.Core.Path.{_≡_, sym, ap, subst, _∙_}
 use mathlib.Core.Bool.{Bool, true, false}
 use mathlib.Core.List.{List, []}
@@ -9,7 +9,7 @@ use lib.ListN.{length, getD}
 use Rattle.automata.specs.Automaton.{Automaton, accepts}
 use Rattle.automata.specs.Language.{Same}
 use Rattle.automata.specs.Minimal.{Minimal, SameBits}
-use Rattle.automata.specs.Operations.{sumOf, mirrorOf}
+use Rattle.automata.specs.Operations.{sumOf}
 use Rattle.automata.specs.MinimalOf.{minimalOf, dimensionOf}
 use Rattle.automata.specs.FirstDifference.{firstDifference}
 use Rattle.automata.specs.Fields.{fields}
@@ -17,7 +17,7 @@ use Rattle.automata.specs.Reduction.{ObservableOn, Reduced}
 use Rattle.automata.specs.Tree.{Tree, wordTo, wordsTo}
 use Rattle.automata.proofs.Xor.{xor-zero}
 use Rattle.automata.proofs.Operations.{accepts-sum}
-use Rattle.automata.proofs.Reduction.{none-accepted, first-accepted, tableau, reduced-minimal, two-pass}
+use Rattle.automata.proofs.Reduction.{none-accepted, first-accepted, tableau, reduced-minimal}
 use Rattle.automata.proofs.Minimal.{minimal-same}
 use Rattle.automata.proofs.Tree.{words-length, words-at, tree-reduced}
 use Rattle.automata.proofs.Dimension.{minimal-is}
@@ -42,23 +42,7 @@ module _ (a : ℕ) (A B C : Automaton) (ts : List (List ℕ)) (R : Reduced a (su
         first = λ u ou p. xor-zero (sym (accepts-sum A B u) ∙ first-accepted a (sumOf A B) C ts R k hk h u ou p);
       })
 
--- ---- from the trees that a program holds
-
-module _ (a : ℕ) (A B C : Automaton) (d e : ℕ) (R Q : ℕ → ℕ → Bool) (from by from′ by′ : ℕ → ℕ) (S : Tree a (mirrorOf A) B d R from by) (T : Tree a (mirrorOf B) C e Q from′ by′) where
-  -- Two searches, the first over the mirror, give the minimal automaton; its basis words are those of the second tree.
-  pub trees-minimal : Minimal a (accepts A) C (wordsTo from′ by′ e)
-  trees-minimal = two-pass a A B C (wordsTo from by d) (wordsTo from′ by′ e) (tree-reduced a (mirrorOf A) B d R from by S .spanning) (tree-reduced a (mirrorOf B) C e Q from′ by′ T)
-
-  minimal-bits : SameBits a C (minimalOf a A)
-  minimal-bits = minimal-is a A C (wordsTo from′ by′ e) trees-minimal
-
-  -- They are the fields of minimalOf, and the size is the dimension.
-  pub trees-fields : fields a C ≡ fields a (minimalOf a A)
-  trees-fields = bits-fields a C (minimalOf a A) minimal-bits
-
-  pub trees-dimension : e ≡ dimensionOf a A
-  unfolding minimalOf dimensionOf
-  trees-dimension = sym (T .size) ∙ minimal-bits .states
+-- ---- from the tree that a program holds
 
 -- One search over an automaton B with A's language, observable on the rows found.
 module _ (a : ℕ) (A B C : Automaton) (same : Same a (accepts B) (accepts A)) (d : ℕ) (R : ℕ → ℕ → Bool) (from by : ℕ → ℕ) (T : Tree a B C d R from by) (O : ObservableOn a B (wordsTo from by d)) where

@@ -1,11 +1,9 @@
 -- Rows of states, for the contracts of inner functions: what a row accepts, a row times a letter's matrix, the row reached along a word.
-use mathlib.Core.Path.{_≡_}
-use mathlib.Core.Bool.{Bool, false, _&&_}
+use mathlib.Core.Bool.{Bool, _&&_}
 use mathlib.Core.List.{List, [], _∷_}
-use Prim.Native.Nat.{ℕ, _<_}
+use Prim.Native.Nat.{ℕ}
 use Rattle.automata.specs.Xor.{xorBelow}
 use Rattle.automata.specs.Automaton.{Automaton, pathsFrom, odd}
-use Rattle.automata.specs.Word.{Over}
 
 -- Whether state i accepts w.
 abbrev pub acceptsFrom : Automaton → List ℕ → ℕ → Bool
@@ -23,7 +21,3 @@ times A l r j = xorBelow (A .states) (λ i. r i && A .step l i j)
 abbrev pub reach : Automaton → (ℕ → Bool) → List ℕ → ℕ → Bool
 reach A r [] = r
 reach A r (l ∷ w) = reach A (times A l r) w
-
--- Rows that accept nothing are zero.
-abbrev pub Observable : ℕ → Automaton → Type 0
-Observable a A = (r : ℕ → Bool) → ((v : List ℕ) → Over a v → rowAccepts A r v ≡ false) → (j : ℕ) → j < A .states → r j ≡ false
