@@ -1,0 +1,2 @@
+-- The definitions that the contracts on lookup tables cite.
+pub mod Lookup
