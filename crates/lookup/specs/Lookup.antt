@@ -2,6 +2,7 @@
 --   groups            how many fours of rows a table has room for
 --   chosen p M i      row i of M where p has bit i, else no bits
 --   Tabled k M t      in the first k groups of t, entry v is the xor of those of the four rows that the bits of v name
+--   Kept k M y        y is its own product with the first k fours of rows
 --   Doubled           after h entries from `at` on stand the first m of them, each with x added
 --   Grouped           group g is filled
 use mathlib.Core.Path.{_≡_}
@@ -28,6 +29,9 @@ entry M g v = product 4 v (λ i. M (g * 4 + i))
 
 unfoldable pub Tabled : ℕ → (ℕ → ℕ) → List ℕ → Type 0
 Tabled k M t = (g v : ℕ) → g < k → v < 16 → getD t (g * 16 + v) 0 ≡ entry M g v
+
+abbrev pub Kept : ℕ → (ℕ → ℕ) → ℕ → Type 0
+Kept k M y = y ≡ product (k * 4) y M
 
 pub record Doubled (at h m x : ℕ) (t s : List ℕ) : Type 0 where
   pub upper : (v : ℕ) → v < m → getD s (at + h + v) 0 ≡ bitXor (getD t (at + v) 0) x

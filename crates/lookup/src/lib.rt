@@ -7,7 +7,7 @@ ghost use Rattle.rows.specs.Row.{width, mask};
 ghost use Rattle.rows.specs.Table.{blocks};
 ghost use Rattle.rows.specs.Product.{product};
 ghost use Rattle.basis.specs.Basis.{parts, cell, Room};
-ghost use Rattle.lookup.specs.Lookup.{groups, lookupSize, chosen, Tabled, Doubled, Grouped};
+ghost use Rattle.lookup.specs.Lookup.{groups, lookupSize, chosen, Tabled, Kept, Doubled, Grouped};
 use kernels::Line;
 use rows::Row;
 
@@ -85,7 +85,7 @@ pub fn times(tab: &Lookup, k: usize, x: Row) -> Row
 // rows that its rows make.
 pub fn keeps(tab: &Lookup, k: usize, s: &Line, a: usize) -> bool
     requires { ⌜ (k ≤ groups) × (a ≤ blocks) ⌝ }
-    ensures { λ r. ⌜ (r ≡ true → (M : ℕ → ℕ) → Tabled k M (now (tab .entry)) → (l : ℕ) → l < a → getD (now (s .entry)) l 0 ≡ product (k * 4) (getD (now (s .entry)) l 0) M) ⌝ }
+    ensures { λ r. ⌜ (r ≡ true → (M : ℕ → ℕ) → Tabled k M (now (tab .entry)) → (l : ℕ) → l < a → Kept k M (getD (now (s .entry)) l 0)) ⌝ }
 {
     let mut l: usize = 0;
     while l < a {

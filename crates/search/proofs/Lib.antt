@@ -1,1 +1,2 @@
 pub mod TryLaws
+pub mod PassLaws

@@ -1,18 +1,22 @@
 // The search for the first accepted row of two well-formed records side by side, straight from their bytes.
 ghost use mathlib.Core.Path.{_≡_};
-ghost use mathlib.Core.Bool.{false};
+ghost use mathlib.Core.Bool.{true, false};
+ghost use mathlib.Core.List.{List};
 ghost use Prim.Native.Nat.{ℕ, _+_, _*_, _/_, _^_, _≤_, _<_};
 ghost use lib.ListN.{length};
 ghost use lib.Bits.{bitXor};
-ghost use Rattle.rows.specs.Row.{mask};
+ghost use Rattle.rows.specs.Row.{width, mask};
+ghost use Rattle.rows.specs.Product.{product};
 ghost use Rattle.basis.specs.Basis.{cell, Room};
+ghost use Rattle.lookup.specs.Lookup.{groups, Tabled, Kept};
 ghost use Rattle.trail.specs.Trail.{trailSize};
 ghost use Rattle.record.specs.Record.{statesOf};
 ghost use Rattle.products.specs.Lines.{Single};
-ghost use Rattle.hunt.specs.Both.{Paired};
+ghost use Rattle.hunt.specs.Both.{besideOf, Paired};
 ghost use Rattle.hunt.specs.Hunt.{shared, HuntingIn, HuntedIn, EndedIn};
 use elimination::Size;
 use hunt::Hunt;
+use lookup::Lookup;
 use products::Three;
 use rows::Machine;
 use rows::Row;
@@ -179,6 +183,80 @@ fn try_row(
     try_line(first, second, m, b, stride, w, s, k, x)
 }
 
+// Whether the table keeps the products of the row x by every letter.
+fn are_kept(first: &[u8], second: &[u8], m: Machine, x: Row, tab: &Lookup, g: usize) -> bool
+    requires { ⌜ Paired (now first) (now second) m × (mask x < 2 ^ m .states) × (g ≤ groups) ⌝ }
+    ensures { λ r. ⌜ (r ≡ true → (M : ℕ → ℕ) → Tabled g M (now (tab .entry)) → (l : ℕ) → l < m .letters → Kept g M (product (m .states) (mask x) (besideOf (now (first .entry)) (now (second .entry)) l))) ⌝ }
+{
+    let a = m.letters;
+    let mut y = [0u64; 8];
+    pair_products::times_both(first, second, x, &mut y);
+    lookup::keeps(tab, g, &y, a)
+}
+
+// From row k on, the first row that has a product which is no xor of rows found; or the end of the rows. The basis is only read, so that
+// one table of it serves them all.
+fn pass_rows(
+    first: &[u8],
+    second: &[u8],
+    m: Machine,
+    b: &[u64],
+    stride: usize,
+    s: Size,
+    k: usize,
+) -> usize
+    requires { ⌜ Paired (now first) (now second) m × ((w : List ℕ) × HuntingIn stride (now first) (now second) m (now b) w s k 0) × (k ≤ s .count) × (width ≤ stride) ⌝ }
+    ensures { λ r. ⌜ ((w : List ℕ) → HuntingIn stride (now (first .entry)) (now (second .entry)) m (now (b .entry)) w s k 0 → HuntingIn stride (now (first .entry)) (now (second .entry)) m (now (b .entry)) w s r 0) × (k ≤ r) × (r ≤ s .count) ⌝ }
+{
+    let mut tab = [0u64; 256];
+    let g = lookup::fill(b, stride, 0, s.pivots, &mut tab);
+    let mut j = k;
+    while j < s.count {
+        let x = basis::get(b, stride, 1, j);
+        if !are_kept(first, second, m, x, &tab, g) {
+            return j;
+        }
+        j += 1;
+    }
+    j
+}
+
+// The same where the row before k found nothing new, from d rows on, and a table pays: for many letters, a wide basis and a row of many
+// bits. Elsewhere no row is passed over.
+fn pass_over(
+    first: &[u8],
+    second: &[u8],
+    m: Machine,
+    b: &[u64],
+    stride: usize,
+    s: Size,
+    d: usize,
+    k: usize,
+) -> usize
+    requires { ⌜ Paired (now first) (now second) m × ((w : List ℕ) × HuntingIn stride (now first) (now second) m (now b) w s k 0) × (k ≤ s .count) ⌝ }
+    ensures { λ r. ⌜ ((w : List ℕ) → HuntingIn stride (now (first .entry)) (now (second .entry)) m (now (b .entry)) w s k 0 → HuntingIn stride (now (first .entry)) (now (second .entry)) m (now (b .entry)) w s r 0) × (k ≤ r) × (r ≤ s .count) ⌝ }
+{
+    if m.letters < 4 {
+        return k;
+    }
+    if stride < basis::WIDEST {
+        return k;
+    }
+    let c = s.count;
+    if d < c {
+        return k;
+    }
+    if c <= k {
+        return k;
+    }
+    let x = basis::get(b, stride, 1, k);
+    let n = record::size(first[5]);
+    if pair_products::are_single(n, x) {
+        return k;
+    }
+    pass_rows(first, second, m, b, stride, s, k)
+}
+
 // Every row by every letter, until a row is accepted.
 fn try_rows(
     first: &[u8],
@@ -199,8 +277,8 @@ fn try_rows(
         let Hunt::Going(next) = h else {
             return h;
         };
+        k = pass_over(first, second, m, b, stride, next, r.count, k + 1);
         r = next;
-        k += 1;
     }
     Hunt::Going(r)
 }

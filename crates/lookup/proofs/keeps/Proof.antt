@@ -10,12 +10,12 @@ use lib.ListN.{getD}
 use Rattle.automata.proofs.Below.{up-to}
 use Rattle.rows.specs.Row.{mask}
 use Rattle.rows.specs.Product.{product}
-use Rattle.lookup.specs.Lookup.{Tabled}
+use Rattle.lookup.specs.Lookup.{Tabled, Kept}
 use Rattle.lookup.proofs.keeps.Statement.{statement}
 use Rattle.lookup.proofs.keeps.Tie as tie
 
 abbrev Inv-loop : tie.InvT-loop
-Inv-loop tab k s a l₀ l = (l ≤ a) × ((M : ℕ → ℕ) → Tabled k M tab → (j : ℕ) → j < l → getD s j 0 ≡ product (k * 4) (getD s j 0) M)
+Inv-loop tab k s a l₀ l = (l ≤ a) × ((M : ℕ → ℕ) → Tabled k M tab → (j : ℕ) → j < l → Kept k M (getD s j 0))
 
 abbrev μ-loop : tie.MeasureT-loop
 μ-loop tab k s a l₀ l = a - l
