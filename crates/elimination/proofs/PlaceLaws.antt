@@ -2,6 +2,7 @@
 use mathlib.Core.Path.{_≡_, refl, sym, ap, ap₂, _∙_}
 use mathlib.Core.Bool.{Bool, true, false, _&&_, _||_, cond, and-false, true≢false}
 use mathlib.Core.List.{List}
+use mathlib.Core.Logic.{_⊎_, inl, inr}
 use Prim.Native.Nat.{ℕ, suc, _+_, _^_, _<_, _≤_}
 use native.Mathlib.Nat.{lt-of-le-of-lt, lt-of-lt-of-le}
 use native.Mathlib.Numerals.{add-one}
@@ -12,10 +13,10 @@ use lib.Pow.{pow-mono}
 use lib.Bits.{bitAnd, bitXor, bitOr, and-le-l}
 use Rattle.automata.specs.Xor.{_⊕_}
 use Rattle.automata.specs.Mask.{bitOf}
-use Rattle.automata.proofs.Xor.{xor-cong, xor-none, eqb-same, eqb-differ}
+use Rattle.automata.proofs.Xor.{bool-cases, xor-cong, xor-none, eqb-same, eqb-differ}
 use Rattle.automata.proofs.Below.{up-to}
 use Rattle.rows.specs.Product.{product}
-use Rattle.rows.proofs.BitLaws.{bit-xor, bit-and, bit-or, bit-none, bit-high, bit-pow}
+use Rattle.rows.proofs.BitLaws.{bit-xor, bit-and, bit-or, bit-none, bit-high, bit-pow, bits-lt}
 use Rattle.rows.proofs.ProductLaws.{bit-product}
 use Rattle.basis.specs.Basis.{cell, bits, written, Room}
 use Rattle.basis.proofs.BasisLaws.{written-length, written-same, written-block, written-row}
@@ -163,6 +164,14 @@ module _ (σ n d p v y : ℕ) (t : List ℕ) (C : ℕ → ℕ → Bool) (F : Bas
       where
         q-in : q < σ
         q-in = omega (arith, pivot-below)
+
+  -- As many rows are found as a row has bits, so that nothing is left.
+  pub full-left : d ≡ n → left ≡ 0
+  full-left full = let h : left < 2 ^ 0 = bits-lt left 0 (λ q h. go q (bool-cases (bitOf left q))) in omega (arith, h)
+    where
+      go : (q : ℕ) → (bitOf left q ≡ true) ⊎ (bitOf left q ≡ false) → bitOf left q ≡ false
+      go q (inl t) = absurd (omega (arith, both-below q t .1))
+      go q (inr f) = f
 
 -- Where no row found has bit q, no basis row has it.
 pub unused : (σ n d p v q : ℕ) (t : List ℕ) (C : ℕ → ℕ → Bool) → BasisIn σ n d p C t → Covered σ d v t → Unused σ n p v q t

@@ -1,15 +1,15 @@
 -- The search in tables.
-use mathlib.Core.Path.{_≡_, refl, sym, ap, ap₂, _∙_}
+use mathlib.Core.Path.{_≡_, refl, sym, ap, ap₂, subst, _∙_}
 use mathlib.Core.Bool.{Bool, false, _&&_, cond, and-false, and-true}
 use mathlib.Core.List.{List}
 use mathlib.Core.Logic.{inl, inr}
-use Prim.Native.Nat.{ℕ, _+_, _^_, _<_, _≤_}
+use Prim.Native.Nat.{ℕ, _+_, _*_, _^_, _<_, _≤_}
 use native.Mathlib.Nat.{not-suc-le-zero}
 use native.Mathlib.Numerals.{add-one}
 use native.Mathlib.Omega.{arith}
 use lib.ListN.{length}
 use lib.Dec.{eqb}
-use lib.Bits.{bitXor}
+use lib.Bits.{bitAnd, bitXor}
 use Rattle.automata.specs.Xor.{_⊕_}
 use Rattle.automata.specs.Mask.{bitOf}
 use Rattle.automata.proofs.Xor.{xor-false, eqb-same, eqb-differ}
@@ -20,13 +20,16 @@ use Rattle.rows.specs.Table.{blocks, size, at, row, stored}
 use Rattle.rows.specs.Product.{product}
 use Rattle.rows.specs.Machine.{autoBy, auto, Bounded}
 use Rattle.rows.proofs.BitLaws.{bit-xor, bit-none, bit-pow, bits-lt}
-use Rattle.rows.proofs.ProductLaws.{bit-product}
+use Rattle.rows.proofs.ProductLaws.{bit-product, product-lt}
 use Rattle.rows.proofs.TableLaws.{length-stored, stored-same, stored-other}
 use Rattle.basis.specs.Basis.{basisSize, cell, bits}
+use Rattle.lookup.specs.Lookup.{chosen}
+use Rattle.lookup.proofs.LookupLaws.{chosen-product}
+use Rattle.elimination.specs.Echelon.{onto}
 use Rattle.elimination.specs.Place.{BasisIn, Covered, Old, New, Placed}
 use Rattle.elimination.proofs.EchelonLaws.{no-echelon, gt-differ}
-use Rattle.elimination.proofs.PlaceLaws.{if-same, if-other}
-use Rattle.reduction.specs.Tables.{SearchIn, Searching, accepted, Reduces, Column}
+use Rattle.elimination.proofs.PlaceLaws.{if-same, if-other, pivots-low, on-pivots, place-old, full-left}
+use Rattle.reduction.specs.Tables.{SearchIn, Searching, Coefficients, accepted, Reduces, Column}
 use Rattle.reduction.proofs.SearchLaws.{search-none, search-first, search-next, search-old, search-new, search-tree}
 
 pub count-bound : (σ n d p : ℕ) (C : ℕ → ℕ → Bool) (b : List ℕ) → BasisIn σ n d p C b → d ≤ n
@@ -140,6 +143,38 @@ searching-step a t n i f ok b s d k l p v G hk hl y hy c d′ p′ v′ b′ s�
 
     next : (from′ : ℕ → ℕ) × (by′ : ℕ → ℕ) × SearchIn width a (at t) n i f b′ (bits width b′ 2) from′ by′ (row s′) d′ k (l + 1) p′
     next = search-placed width a (at t) n i f b (bits width b 2) (G .from) (G .by) (row s) d k l p (G .search) hk hl v d′ p′ v′ (bits width b′ 2) (bitOf c) b′ (row s′) kept written (rw hy at P)
+
+-- As many rows are found as there are states: the product y is an xor of them, c by the table of the coefficients, and the basis stays.
+pub searching-full : (a : ℕ) (t : List ℕ) (n i f : ℕ) → Bounded a t n i f → (b s : List ℕ) (d k l p v : ℕ) → Searching a t n i f b s d k l p v → k < d → l < a → d ≡ n
+    → (y : ℕ) → y ≡ product n (cell width b 1 k) (at t l) → (g : ℕ) (tab : List ℕ) → Coefficients g p b tab → (c : ℕ) → c ≡ product (g * 4) y (chosen p (cell width b 2)) → (s′ : List ℕ) → s′ ≡ stored s l k c
+    → Searching a t n i f b s′ d k (l + 1) p v
+searching-full a t n i f ok b s d k l p v G hk hl full y hy g tab K c hc s′ e =
+    searching-step a t n i f ok b s d k l p v G hk hl y hy c d p v b s′ (inl (place-old width n d p v y b (bits width b 2) F low z refl (product n z (cell width b 0)) eliminated left refl (bitOf c) named none)) e
+  where
+    F : BasisIn width n d p (bits width b 2) b
+    F = G .search .basis
+
+    low : y < 2 ^ n
+    low = subst (λ x. x < 2 ^ n) (sym hy) (product-lt n n (cell width b 1 k) (at t l) (λ j h. ok .rows l j hl h))
+
+    z : ℕ
+    z = bitAnd y p
+
+    z-low : z < 2 ^ n
+    z-low = pivots-low n n y p refl low (omega arith)
+
+    -- However many bits a row has, the product is the same.
+    eliminated : (m : ℕ) → z < 2 ^ m → product n z (cell width b 0) ≡ product m z (cell width b 0)
+    eliminated m h = sym (chosen-product (g * 4) p y (cell width b 0) (K .all) n z-low) ∙ chosen-product (g * 4) p y (cell width b 0) (K .all) m h
+
+    left : ℕ
+    left = bitXor y (product n z (cell width b 0))
+
+    none : left ≡ 0
+    none = full-left width n d p v y b (bits width b 2) F low z refl (product n z (cell width b 0)) eliminated left refl full
+
+    named : (r : ℕ) → bitOf c r ≡ onto n (bitOf p) (bits width b 2) (bitOf y) r
+    named = on-pivots width n d p v y b (bits width b 2) F low z refl (product n z (cell width b 0)) eliminated left refl 2 c (hc ∙ chosen-product (g * 4) p y (cell width b 2) (K .all) n z-low)
 
 pub searching-next : (a : ℕ) (t : List ℕ) (n i f : ℕ) (b s : List ℕ) (d k p v : ℕ) → Searching a t n i f b s d k a p v → Searching a t n i f b s d (k + 1) 0 p v
 searching-next a t n i f b s d k p v G = record {

@@ -3,11 +3,12 @@
 -- given; the products done are the table s.
 --   SearchIn     the search before the pair (k, l), with d rows found and the pivots p
 --   Searching    the same, the products in a table; v has every bit that a row found has
+--   Coefficients a table for products with the coefficients, four bits at a time
 --   Reduces      s is the automaton on the rows that b holds: the list of basis words is their tree
 use mathlib.Core.Path.{_≡_}
 use mathlib.Core.Bool.{Bool, _&&_}
 use mathlib.Core.List.{List}
-use Prim.Native.Nat.{ℕ, _<_}
+use Prim.Native.Nat.{ℕ, _*_, _^_, _<_, _≤_}
 use lib.ListN.{length}
 use Rattle.automata.specs.Xor.{xorBelow}
 use Rattle.automata.specs.Mask.{bitOf}
@@ -15,7 +16,8 @@ use Rattle.automata.specs.Tree.{Tree}
 use Rattle.rows.specs.Row.{width}
 use Rattle.rows.specs.Table.{size, at, row}
 use Rattle.rows.specs.Machine.{autoBy, auto, Bounded}
-use Rattle.basis.specs.Basis.{basisSize, bits}
+use Rattle.basis.specs.Basis.{basisSize, cell, bits}
+use Rattle.lookup.specs.Lookup.{groups, chosen, Tabled}
 use Rattle.elimination.specs.Place.{Covered}
 use Rattle.reduction.specs.Search.{Search}
 
@@ -30,6 +32,12 @@ pub record Searching (a : ℕ) (t : List ℕ) (n i f : ℕ) (b s : List ℕ) (d 
   pub cover : Covered width d v b
   pub base : length b ≡ basisSize
   pub out : length s ≡ size
+
+-- The first g groups of tab are a table of the coefficients in the basis b, at the pivots p.
+pub record Coefficients (g p : ℕ) (b tab : List ℕ) : Type 0 where
+  pub few : g ≤ groups
+  pub all : p < 2 ^ (g * 4)
+  pub tabled : Tabled g (chosen p (cell width b 2)) tab
 
 -- Whether row r of the basis b is accepted: it shares an odd number of bits with f.
 abbrev pub accepted : ℕ → ℕ → List ℕ → ℕ → ℕ → Bool

@@ -7,10 +7,11 @@ ghost use Rattle.rows.specs.Table.{size, at};
 ghost use Rattle.rows.specs.Machine.{Valid};
 ghost use Rattle.rows.specs.Product.{product};
 ghost use Rattle.basis.specs.Basis.{basisSize, cell};
-ghost use Rattle.reduction.specs.Tables.{Searching, Column, Reduces};
+ghost use Rattle.reduction.specs.Tables.{Searching, Coefficients, Column, Reduces};
 use basis::Basis;
 use basis::WIDEST;
 use elimination::Size;
+use lookup::Lookup;
 use rows::Machine;
 use rows::Row;
 use rows::Table;
@@ -68,14 +69,88 @@ pub fn expand(t: &Table, m: Machine, b: &mut Basis, out: &mut Table, s: Size, k:
     expand_letters(t, m, b, out, s, k)
 }
 
+// Row k of the basis times letter l, which is y, where as many rows are found as there are states: it is an xor of them, and the first g
+// groups of tab tell of which.
+fn look_up(
+    t: &Table,
+    m: Machine,
+    b: &Basis,
+    tab: &Lookup,
+    g: usize,
+    out: &mut Table,
+    y: Row,
+    s: Size,
+    k: usize,
+    l: usize,
+)
+    requires { ⌜ Valid (now t) m × Searching (m .letters) (now t) (m .states) (mask (m .initial)) (mask (m .finals)) (now b) (now out) (s .count) k l (mask (s .pivots)) (mask (s .used)) × (k < s .count) × (l < m .letters) × (s .count ≡ m .states) × Coefficients g (mask (s .pivots)) (now b) (now tab) × (mask y ≡ product (m .states) (cell width (now b) 1 k) (at (now t) l)) ⌝ }
+    ensures { λ r. ⌜ Searching (m .letters) (now (t .entry)) (m .states) (mask (m .initial)) (mask (m .finals)) (now (b .entry)) (now (out .exit)) (s .count) k (l + 1) (mask (s .pivots)) (mask (s .used)) ⌝ }
+{
+    let c = lookup::times(tab, g, y);
+    rows::store(out, l, k, c);
+}
+
+// Row k by every letter, so looked up.
+fn look_up_row(
+    t: &Table,
+    m: Machine,
+    b: &Basis,
+    tab: &Lookup,
+    g: usize,
+    out: &mut Table,
+    s: Size,
+    k: usize,
+)
+    requires { ⌜ Valid (now t) m × Searching (m .letters) (now t) (m .states) (mask (m .initial)) (mask (m .finals)) (now b) (now out) (s .count) k 0 (mask (s .pivots)) (mask (s .used)) × (k < s .count) × (s .count ≡ m .states) × Coefficients g (mask (s .pivots)) (now b) (now tab) ⌝ }
+    ensures { λ r. ⌜ Searching (m .letters) (now (t .entry)) (m .states) (mask (m .initial)) (mask (m .finals)) (now (b .entry)) (now (out .exit)) (s .count) (k + 1) 0 (mask (s .pivots)) (mask (s .used)) ⌝ }
+{
+    let a = m.letters;
+    let x = basis::get(b, WIDEST, 1, k);
+    let mut y = [0u64; 8];
+    kernels::times_all(t, a, x, &mut y);
+    let mut l: usize = 0;
+    while l < a {
+        let z = kernels::pick(&y, l);
+        look_up(t, m, b, tab, g, out, z, s, k, l);
+        l += 1;
+    }
+}
+
+// The rows from `first` on by every letter, by a table of the coefficients.
+fn look_up_rows(t: &Table, m: Machine, b: &Basis, out: &mut Table, s: Size, first: usize)
+    requires { ⌜ Valid (now t) m × Searching (m .letters) (now t) (m .states) (mask (m .initial)) (mask (m .finals)) (now b) (now out) (s .count) first 0 (mask (s .pivots)) (mask (s .used)) × (first ≤ s .count) × (s .count ≡ m .states) ⌝ }
+    ensures { λ r. ⌜ Searching (m .letters) (now (t .entry)) (m .states) (mask (m .initial)) (mask (m .finals)) (now (b .entry)) (now (out .exit)) (s .count) (s .count) 0 (mask (s .pivots)) (mask (s .used)) ⌝ }
+{
+    let d = s.count;
+    let p = s.pivots;
+    let mut tab = [0u64; 256];
+    let g = lookup::fill(b, WIDEST, 2, p, &mut tab);
+    let mut k = first;
+    while k < d {
+        look_up_row(t, m, b, &tab, g, out, s, k);
+        k += 1;
+    }
+}
+
+// How many products are worth a table.
+const MANY: usize = 32;
+
 // Every row by every letter, first in, first out.
 pub fn search(t: &Table, m: Machine, b: &mut Basis, out: &mut Table, s: Size) -> Size
     requires { ⌜ Valid (now t) m × Searching (m .letters) (now t) (m .states) (mask (m .initial)) (mask (m .finals)) (now b) (now out) (s .count) 0 0 (mask (s .pivots)) (mask (s .used)) ⌝ }
     ensures { λ r. ⌜ Searching (m .letters) (now (t .entry)) (m .states) (mask (m .initial)) (mask (m .finals)) (now (b .exit)) (now (out .exit)) (r .count) (r .count) 0 (mask (r .pivots)) (mask (r .used)) × (s .count ≤ r .count) × (s .count ≡ 0 → r .count ≡ 0) ⌝ }
 {
+    let n = m.states;
+    let a = m.letters;
     let mut r = s;
     let mut k: usize = 0;
     while k < r.count {
+        if r.count == n {
+            if MANY <= (n - k) * a {
+                look_up_rows(t, m, b, out, r, k);
+                return r;
+            }
+        }
         r = expand(t, m, b, out, r, k);
         k += 1;
     }
