@@ -19,9 +19,8 @@ fn explore_letters(t: &Table, m: Machine, b: &mut Basis, s: Size, k: usize) -> S
     ensures { λ r. ⌜ Exploring (m .letters) (now (t .entry)) (m .states) (mask (m .initial)) (mask (m .finals)) (now (b .exit)) (r .count) (k + 1) 0 (mask (r .pivots)) (mask (r .used)) × (s .count ≤ r .count) ⌝ }
 {
     let a = m.letters;
-    let x = basis::get(b, WIDEST, 1, k);
     let mut y = [0u64; 8];
-    kernels::times_all(t, a, x, &mut y);
+    reduction::multiply(t, a, b, k, &mut y);
     let mut r = s;
     let mut l: usize = 0;
     while l < a {

@@ -3,14 +3,16 @@ ghost use mathlib.Core.Path.{_≡_};
 ghost use Prim.Native.Nat.{ℕ, _+_, _^_, _≤_, _<_};
 ghost use lib.ListN.{length};
 ghost use Rattle.rows.specs.Row.{width, mask};
-ghost use Rattle.rows.specs.Table.{size, at};
+ghost use Rattle.rows.specs.Table.{blocks, size, at};
 ghost use Rattle.rows.specs.Machine.{Valid};
 ghost use Rattle.rows.specs.Product.{product};
 ghost use Rattle.basis.specs.Basis.{basisSize, cell};
+ghost use Rattle.kernels.specs.Products.{Products};
 ghost use Rattle.reduction.specs.Tables.{Searching, Coefficients, Column, Reduces};
 use basis::Basis;
 use basis::WIDEST;
 use elimination::Size;
+use kernels::Line;
 use lookup::Lookup;
 use rows::Machine;
 use rows::Row;
@@ -36,15 +38,23 @@ pub fn step(
     q.size
 }
 
+// The products of row k of the basis with the first a letters, in a line.
+pub fn multiply(t: &Table, a: usize, b: &Basis, k: usize, y: &mut Line)
+    requires { ⌜ (a ≤ blocks) × (length (now b) ≡ basisSize) × (k < width) × (length (now y) ≡ blocks) ⌝ }
+    ensures { λ r. ⌜ ((n : ℕ) → cell width (now (b .entry)) 1 k < 2 ^ n → Products a n (cell width (now (b .entry)) 1 k) (at (now (t .entry))) (now (y .exit))) ⌝ }
+{
+    let x = basis::get(b, WIDEST, 1, k);
+    kernels::times_all(t, a, x, y);
+}
+
 // Row k by every letter, the products in a line.
 fn expand_letters(t: &Table, m: Machine, b: &mut Basis, out: &mut Table, s: Size, k: usize) -> Size
     requires { ⌜ Valid (now t) m × Searching (m .letters) (now t) (m .states) (mask (m .initial)) (mask (m .finals)) (now b) (now out) (s .count) k 0 (mask (s .pivots)) (mask (s .used)) × (k < s .count) ⌝ }
     ensures { λ r. ⌜ Searching (m .letters) (now (t .entry)) (m .states) (mask (m .initial)) (mask (m .finals)) (now (b .exit)) (now (out .exit)) (r .count) (k + 1) 0 (mask (r .pivots)) (mask (r .used)) × (s .count ≤ r .count) ⌝ }
 {
     let a = m.letters;
-    let x = basis::get(b, WIDEST, 1, k);
     let mut y = [0u64; 8];
-    kernels::times_all(t, a, x, &mut y);
+    multiply(t, a, b, k, &mut y);
     let mut r = s;
     let mut l: usize = 0;
     while l < a {
@@ -105,9 +115,8 @@ fn look_up_row(
     ensures { λ r. ⌜ Searching (m .letters) (now (t .entry)) (m .states) (mask (m .initial)) (mask (m .finals)) (now (b .entry)) (now (out .exit)) (s .count) (k + 1) 0 (mask (s .pivots)) (mask (s .used)) ⌝ }
 {
     let a = m.letters;
-    let x = basis::get(b, WIDEST, 1, k);
     let mut y = [0u64; 8];
-    kernels::times_all(t, a, x, &mut y);
+    multiply(t, a, b, k, &mut y);
     let mut l: usize = 0;
     while l < a {
         let z = kernels::pick(&y, l);

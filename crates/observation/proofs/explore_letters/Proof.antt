@@ -27,39 +27,34 @@ below s =
     omega (arith, exploring-bound (a .m .letters) (a .t .now) (a .m .states) (mask (a .m .initial)) (mask (a .m .finals)) (s .pre .0) (a .b .now) (a .s .count) (a .k) 0 (mask (a .s .pivots)) (mask (a .s .used)) (s .pre .1), s .pre .2)
 
 -- The line has the products of row k.
-made : (c : tie.After-times-all Inv-loop μ-loop) → Products (c .before .before .before .before .before .args .m .letters) (c .before .before .before .before .before .args .m .states) (cell width (c .before .before .before .before .before .args .b .now) 1 (c .before .before .before .before .before .args .k)) (at (c .before .before .before .before .before .args .t .now)) (c .times-all .last .1 .1 .1 .0)
+made : (c : tie.After-multiply Inv-loop μ-loop) → Products (c .before .before .before .args .m .letters) (c .before .before .before .args .m .states) (cell width (c .before .before .before .args .b .now) 1 (c .before .before .before .args .k)) (at (c .before .before .before .args .t .now)) (c .multiply .last .1 .1 .1 .1 .0)
 made c =
-    let s = c .before .before .before .before .before in
+    let s = c .before .before .before in
     let a = s .args in
     let n = a .m .states in
-    let e = c .before .before .get .ensures in
-    let h = found-low width n (a .s .count) (mask (a .s .pivots)) (s .pre .1 .coef) (a .b .now) (s .pre .1 .search .basis) (a .k) (s .pre .2) in
-    subst (λ x. Products (a .m .letters) n x (at (a .t .now)) (c .times-all .last .1 .1 .1 .0)) e (c .times-all .ensures n (subst (λ x. x < 2 ^ n) (sym e) h))
+    c .multiply .ensures n (found-low width n (a .s .count) (mask (a .s .pivots)) (s .pre .1 .coef) (a .b .now) (s .pre .1 .search .basis) (a .k) (s .pre .2))
 
-get-requires : tie.Need-get-requires Inv-loop μ-loop
-get-requires c κs = (omega (arith, c .before .before .pre .1 .base), omega arith, below (c .before .before))
-
-times-all-requires : tie.Need-times-all-requires Inv-loop μ-loop
-times-all-requires c κs = (c .before .before .before .before .pre .0 .letters, refl)
+multiply-requires : tie.Need-multiply-requires Inv-loop μ-loop
+multiply-requires c κs = (c .before .before .pre .0 .letters, c .before .before .pre .1 .base, below (c .before .before), refl)
 
 loop-holds : tie.Need-loop-holds Inv-loop μ-loop
-loop-holds c = (omega arith, c .before .before .before .before .before .pre .1, omega arith, refl)
+loop-holds c = (omega arith, c .before .before .before .pre .1, omega arith, refl)
 
 pick-requires : tie.Need-pick-requires Inv-loop μ-loop
-pick-requires c κs = omega (arith, c .before .loop-test .taken, c .before .before .before .before .before .before .before .before .pre .0 .letters)
+pick-requires c κs = omega (arith, c .before .loop-test .taken, c .before .before .before .before .before .before .pre .0 .letters)
 
 -- The product in the line is that of row k, which stays, and as short as the rows of the matrix.
-product-is : (c : tie.After-insert-arg Inv-loop μ-loop) → mask (c .before .pick .result) ≡ product (c .before .before .before .before .before .before .before .before .before .before .args .m .states) (cell width (c .before .before .before .before .loop .b) 1 (c .before .before .before .before .before .before .before .before .before .before .args .k)) (at (c .before .before .before .before .before .before .before .before .before .before .args .t .now) (c .before .before .before .before .loop .l))
+product-is : (c : tie.After-insert-arg Inv-loop μ-loop) → mask (c .before .pick .result) ≡ product (c .before .before .before .before .before .before .before .before .args .m .states) (cell width (c .before .before .before .before .loop .b) 1 (c .before .before .before .before .before .before .before .before .args .k)) (at (c .before .before .before .before .before .before .before .before .args .t .now) (c .before .before .before .before .loop .l))
 product-is c =
     let v = c .before .before .before .before .loop in
     let y = c .before .before .before .before .before in
-    let a = y .before .before .before .before .before .args in
+    let a = y .before .before .before .args in
     c .before .pick .ensures ∙ made y (v .l) (omega (arith, c .before .before .before .loop-test .taken)) ∙ ap (λ x. product (a .m .states) x (at (a .t .now) (v .l))) (sym (v .inv .3))
 
-low : (c : tie.After-insert-arg Inv-loop μ-loop) → mask (c .before .pick .result) < 2 ^ c .before .before .before .before .before .before .before .before .before .before .args .m .states
+low : (c : tie.After-insert-arg Inv-loop μ-loop) → mask (c .before .pick .result) < 2 ^ c .before .before .before .before .before .before .before .before .args .m .states
 low c =
     let v = c .before .before .before .before .loop in
-    let s = c .before .before .before .before .before .before .before .before .before .before in
+    let s = c .before .before .before .before .before .before .before .before in
     let a = s .args in
     let n = a .m .states in
     subst (λ y. y < 2 ^ n) (sym (product-is c)) (product-lt n n (cell width (v .b) 1 (a .k)) (at (a .t .now) (v .l)) (λ i h. s .pre .0 .rows (v .l) i (omega (arith, c .before .before .before .loop-test .taken)) h))
@@ -68,11 +63,11 @@ insert-requires : tie.Need-insert-requires Inv-loop μ-loop
 insert-requires c κs =
     let v = c .before .before .before .before .loop in
     let y = c .before .before .before .before .before in
-    let s = y .before .before .before .before .before in
+    let s = y .before .before .before in
     (s .pre .0 .states, s .pre .0 .states, omega (arith, v .inv .1 .base), low c, (v .inv .1 .coef, v .inv .1 .search .basis), v .inv .1 .cover)
 
 add-l : tie.Need-add-l Inv-loop μ-loop
-add-l c = omega (arith, c .before .before .before .before .loop-test .taken, c .before .before .before .before .before .before .before .before .before .before .before .pre .0 .letters)
+add-l c = omega (arith, c .before .before .before .before .loop-test .taken, c .before .before .before .before .before .before .before .before .before .pre .0 .letters)
 
 loop-less : tie.Need-loop-less Inv-loop μ-loop
 loop-less c = omega (arith, c .before .before .before .before .loop-test .taken)
@@ -80,7 +75,7 @@ loop-less c = omega (arith, c .before .before .before .before .loop-test .taken)
 loop-again : tie.Need-loop-again Inv-loop μ-loop
 loop-again c =
     let v = c .before .before .before .before .before .loop in
-    let s = c .before .before .before .before .before .before .before .before .before .before .before in
+    let s = c .before .before .before .before .before .before .before .before .before in
     let a = s .args in
     let m = a .m in
     let r = c .insert .result in
@@ -91,7 +86,7 @@ loop-again c =
 returns : tie.Need-returns Inv-loop μ-loop
 returns c =
     let v = c .before .loop in
-    let a = c .before .before .before .before .before .before .before .args in
+    let a = c .before .before .before .before .before .args in
     let m = a .m in
     let e : v .l ≡ m .letters = omega arith in
     (exploring-next (m .letters) (a .t .now) (m .states) (mask (m .initial)) (mask (m .finals)) (v .b) (v .r .count) (a .k) (mask (v .r .pivots)) (mask (v .r .used)) (rw e at (v .inv .1)), v .inv .2)
@@ -102,8 +97,7 @@ explore-letters-spec =
     (tie.spec
     Inv-loop
     μ-loop
-    get-requires
-    times-all-requires
+    multiply-requires
     loop-holds
     pick-requires
     insert-requires

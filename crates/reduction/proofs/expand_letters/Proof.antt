@@ -23,37 +23,32 @@ below : (s : tie.Start Inv-loop μ-loop) → s .args .k < width
 below s = omega (arith, count-bound width (s .args .m .states) (s .args .s .count) (mask (s .args .s .pivots)) (bits width (s .args .b .now) 2) (s .args .b .now) (s .pre .1 .search .basis), s .pre .0 .states, s .pre .2)
 
 -- The line has the products of row k.
-made : (c : tie.After-times-all Inv-loop μ-loop) → Products (c .before .before .before .before .before .args .m .letters) (c .before .before .before .before .before .args .m .states) (cell width (c .before .before .before .before .before .args .b .now) 1 (c .before .before .before .before .before .args .k)) (at (c .before .before .before .before .before .args .t .now)) (c .times-all .last .1 .1 .1 .0)
+made : (c : tie.After-multiply Inv-loop μ-loop) → Products (c .before .before .before .args .m .letters) (c .before .before .before .args .m .states) (cell width (c .before .before .before .args .b .now) 1 (c .before .before .before .args .k)) (at (c .before .before .before .args .t .now)) (c .multiply .last .1 .1 .1 .1 .0)
 made c =
-    let s = c .before .before .before .before .before in
+    let s = c .before .before .before in
     let a = s .args in
     let n = a .m .states in
-    let e = c .before .before .get .ensures in
-    let h = found-low width n (a .s .count) (mask (a .s .pivots)) (bits width (a .b .now) 2) (a .b .now) (s .pre .1 .search .basis) (a .k) (s .pre .2) in
-    subst (λ x. Products (a .m .letters) n x (at (a .t .now)) (c .times-all .last .1 .1 .1 .0)) e (c .times-all .ensures n (subst (λ x. x < 2 ^ n) (sym e) h))
+    c .multiply .ensures n (found-low width n (a .s .count) (mask (a .s .pivots)) (bits width (a .b .now) 2) (a .b .now) (s .pre .1 .search .basis) (a .k) (s .pre .2))
 
-get-requires : tie.Need-get-requires Inv-loop μ-loop
-get-requires c κs = (omega arith, omega arith, below (c .before .before))
-
-times-all-requires : tie.Need-times-all-requires Inv-loop μ-loop
-times-all-requires c κs = (c .before .before .before .before .pre .0 .letters, refl)
+multiply-requires : tie.Need-multiply-requires Inv-loop μ-loop
+multiply-requires c κs = (c .before .before .pre .0 .letters, c .before .before .pre .1 .base, below (c .before .before), refl)
 
 loop-holds : tie.Need-loop-holds Inv-loop μ-loop
-loop-holds c = (omega arith, c .before .before .before .before .before .pre .1, omega arith, refl)
+loop-holds c = (omega arith, c .before .before .before .pre .1, omega arith, refl)
 
 pick-requires : tie.Need-pick-requires Inv-loop μ-loop
-pick-requires c κs = omega (arith, c .before .loop-test .taken, c .before .before .before .before .before .before .before .before .pre .0 .letters)
+pick-requires c κs = omega (arith, c .before .loop-test .taken, c .before .before .before .before .before .before .pre .0 .letters)
 
 step-requires : tie.Need-step-requires Inv-loop μ-loop
 step-requires c κs =
     let v = c .before .before .before .before .before .loop in
     let y = c .before .before .before .before .before .before in
-    let s = y .before .before .before .before .before in
+    let s = y .before .before .before in
     let a = s .args in
     (s .pre .0, v .inv .1, omega (arith, v .inv .2, s .pre .2), omega (arith, c .before .before .before .before .loop-test .taken), c .before .before .pick .ensures ∙ made y (v .l) (omega (arith, c .before .before .before .before .loop-test .taken)) ∙ ap (λ x. product (a .m .states) x (at (a .t .now) (v .l))) (sym (v .inv .3)))
 
 add-l : tie.Need-add-l Inv-loop μ-loop
-add-l c = omega (arith, c .before .before .before .before .before .loop-test .taken, c .before .before .before .before .before .before .before .before .before .before .before .before .pre .0 .letters)
+add-l c = omega (arith, c .before .before .before .before .before .loop-test .taken, c .before .before .before .before .before .before .before .before .before .before .pre .0 .letters)
 
 loop-less : tie.Need-loop-less Inv-loop μ-loop
 loop-less c = omega (arith, c .before .before .before .before .before .loop-test .taken)
@@ -67,7 +62,7 @@ loop-again c =
 returns : tie.Need-returns Inv-loop μ-loop
 returns c =
     let v = c .before .loop in
-    let a = c .before .before .before .before .before .before .before .args in
+    let a = c .before .before .before .before .before .args in
     let e : v .l ≡ a .m .letters = omega arith in
     (searching-next (a .m .letters) (a .t .now) (a .m .states) (mask (a .m .initial)) (mask (a .m .finals)) (v .b) (v .out) (v .r .count) (a .k) (mask (v .r .pivots)) (mask (v .r .used)) (rw e at (v .inv .1)), v .inv .2)
 
@@ -77,8 +72,7 @@ expand-letters-spec =
     (tie.spec
     Inv-loop
     μ-loop
-    get-requires
-    times-all-requires
+    multiply-requires
     loop-holds
     pick-requires
     step-requires

@@ -1,6 +1,6 @@
 -- `look_up_row`: the letters below l are done.
-use mathlib.Core.Path.{_≡_, refl, sym, subst, _∙_}
-use Prim.Native.Nat.{_-_, _^_, _≤_, _<_}
+use mathlib.Core.Path.{_≡_, refl, _∙_}
+use Prim.Native.Nat.{_-_, _≤_, _<_}
 use native.Mathlib.Omega.{arith}
 use Rattle.rows.specs.Row.{width, mask}
 use Rattle.rows.specs.Table.{at}
@@ -18,40 +18,35 @@ abbrev μ-loop : tie.MeasureT-loop
 μ-loop t m b tab g out₀ s k a y l₀ out l = m .letters - l
 
 -- The line has the products of row k.
-made : (c : tie.After-times-all Inv-loop μ-loop) → Products (c .before .before .before .before .args .m .letters) (c .before .before .before .before .args .m .states) (cell width (c .before .before .before .before .args .b .now) 1 (c .before .before .before .before .args .k)) (at (c .before .before .before .before .args .t .now)) (c .times-all .last .1 .1 .1 .0)
+made : (c : tie.After-multiply Inv-loop μ-loop) → Products (c .before .before .args .m .letters) (c .before .before .args .m .states) (cell width (c .before .before .args .b .now) 1 (c .before .before .args .k)) (at (c .before .before .args .t .now)) (c .multiply .last .1 .1 .1 .1 .0)
 made c =
-    let s = c .before .before .before .before in
+    let s = c .before .before in
     let a = s .args in
     let n = a .m .states in
-    let e = c .before .before .get .ensures in
-    let h = found-low width n (a .s .count) (mask (a .s .pivots)) (bits width (a .b .now) 2) (a .b .now) (s .pre .1 .search .basis) (a .k) (s .pre .2) in
-    subst (λ x. Products (a .m .letters) n x (at (a .t .now)) (c .times-all .last .1 .1 .1 .0)) e (c .times-all .ensures n (subst (λ x. x < 2 ^ n) (sym e) h))
+    c .multiply .ensures n (found-low width n (a .s .count) (mask (a .s .pivots)) (bits width (a .b .now) 2) (a .b .now) (s .pre .1 .search .basis) (a .k) (s .pre .2))
 
-get-requires : tie.Need-get-requires Inv-loop μ-loop
-get-requires c κs =
+multiply-requires : tie.Need-multiply-requires Inv-loop μ-loop
+multiply-requires c κs =
     let s = c .before in
     let a = s .args in
-    (omega (arith, s .pre .1 .base), omega arith, omega (arith, count-bound width (a .m .states) (a .s .count) (mask (a .s .pivots)) (bits width (a .b .now) 2) (a .b .now) (s .pre .1 .search .basis), s .pre .0 .states, s .pre .2))
-
-times-all-requires : tie.Need-times-all-requires Inv-loop μ-loop
-times-all-requires c κs = (c .before .before .before .pre .0 .letters, refl)
+    (s .pre .0 .letters, s .pre .1 .base, omega (arith, count-bound width (a .m .states) (a .s .count) (mask (a .s .pivots)) (bits width (a .b .now) 2) (a .b .now) (s .pre .1 .search .basis), s .pre .0 .states, s .pre .2), refl)
 
 loop-holds : tie.Need-loop-holds Inv-loop μ-loop
-loop-holds c = (omega arith, c .before .before .before .before .pre .1)
+loop-holds c = (omega arith, c .before .before .pre .1)
 
 pick-requires : tie.Need-pick-requires Inv-loop μ-loop
-pick-requires c κs = omega (arith, c .before .loop-test .taken, c .before .before .before .before .before .before .before .pre .0 .letters)
+pick-requires c κs = omega (arith, c .before .loop-test .taken, c .before .before .before .before .before .pre .0 .letters)
 
 look-up-requires : tie.Need-look-up-requires Inv-loop μ-loop
 look-up-requires c κs =
     let v = c .before .before .before .before .loop in
     let y = c .before .before .before .before .before in
-    let s = y .before .before .before .before in
+    let s = y .before .before in
     let h : v .l < s .args .m .letters = omega (arith, c .before .before .before .loop-test .taken) in
     (s .pre .0, v .inv .1, s .pre .2, h, s .pre .3, s .pre .4, c .before .pick .ensures ∙ made y (v .l) h)
 
 add-l : tie.Need-add-l Inv-loop μ-loop
-add-l c = omega (arith, c .before .before .before .before .loop-test .taken, c .before .before .before .before .before .before .before .before .before .before .pre .0 .letters)
+add-l c = omega (arith, c .before .before .before .before .loop-test .taken, c .before .before .before .before .before .before .before .before .pre .0 .letters)
 
 loop-less : tie.Need-loop-less Inv-loop μ-loop
 loop-less c = omega (arith, c .before .before .before .before .loop-test .taken)
@@ -62,7 +57,7 @@ loop-again c = (omega (arith, c .before .before .before .before .loop-test .take
 returns : tie.Need-returns Inv-loop μ-loop
 returns c =
     let v = c .before .loop in
-    let a = c .before .before .before .before .before .before .args in
+    let a = c .before .before .before .before .args in
     let m = a .m in
     let e : v .l ≡ m .letters = omega arith in
     searching-next (m .letters) (a .t .now) (m .states) (mask (m .initial)) (mask (m .finals)) (a .b .now) (v .out) (a .s .count) (a .k) (mask (a .s .pivots)) (mask (a .s .used)) (rw e at (v .inv .1))
@@ -73,8 +68,7 @@ look-up-row-spec =
     (tie.spec
     Inv-loop
     μ-loop
-    get-requires
-    times-all-requires
+    multiply-requires
     loop-holds
     pick-requires
     look-up-requires
