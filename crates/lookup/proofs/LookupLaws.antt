@@ -54,7 +54,7 @@ product-wider n k x M h =
     ∙ ap (bitXor (product n x M)) (ap (λ w. product k w (λ i. M (n + i))) (div-eq-of-lt h) ∙ product-none k 0 (λ i. M (n + i)) (λ i p. bit-none i))
     ∙ xor-zero-r (product n x M)
 
-product-width : (m n x : ℕ) (M : ℕ → ℕ) → x < 2 ^ m → x < 2 ^ n → product m x M ≡ product n x M
+pub product-width : (m n x : ℕ) (M : ℕ → ℕ) → x < 2 ^ m → x < 2 ^ n → product m x M ≡ product n x M
 product-width m n x M h g = sym (product-wider m n x M h) ∙ ap (λ w. product w x M) (add-comm m n) ∙ product-wider n m x M g
 
 -- ---- the rows that a mask chooses

@@ -221,8 +221,8 @@ fn pass_rows(
     j
 }
 
-// The same where the row before k found nothing new, from d rows on, and a table pays: for many letters, a wide basis and a row of many
-// bits. Elsewhere no row is passed over.
+// The rows passed over from row k on: all, where there is no room for one more row; those that the table passes, where row k - 1 found
+// nothing new, from d rows on, and a table pays: for many letters, a wide basis and a row of many bits.
 fn pass_over(
     first: &[u8],
     second: &[u8],
@@ -236,13 +236,16 @@ fn pass_over(
     requires { ⌜ Paired (now first) (now second) m × ((w : List ℕ) × HuntingIn stride (now first) (now second) m (now b) w s k 0) × (k ≤ s .count) ⌝ }
     ensures { λ r. ⌜ ((w : List ℕ) → HuntingIn stride (now (first .entry)) (now (second .entry)) m (now (b .entry)) w s k 0 → HuntingIn stride (now (first .entry)) (now (second .entry)) m (now (b .entry)) w s r 0) × (k ≤ r) × (r ≤ s .count) ⌝ }
 {
+    let c = s.count;
+    if m.states <= c {
+        return c;
+    }
     if m.letters < 4 {
         return k;
     }
     if stride < basis::WIDEST {
         return k;
     }
-    let c = s.count;
     if d < c {
         return k;
     }
