@@ -222,7 +222,7 @@ fn pass_rows(
 }
 
 // The rows passed over from row k on: all, where there is no room for one more row; those that the table passes, where row k - 1 found
-// nothing new, from d rows on, and a table pays: for many letters, a wide basis and a row of many bits.
+// nothing new, from d rows on, and a table pays: for a wide basis and a row of many bits.
 fn pass_over(
     first: &[u8],
     second: &[u8],
@@ -239,9 +239,6 @@ fn pass_over(
     let c = s.count;
     if m.states <= c {
         return c;
-    }
-    if m.letters < 4 {
-        return k;
     }
     if stride < basis::WIDEST {
         return k;
