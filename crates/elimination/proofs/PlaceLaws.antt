@@ -16,7 +16,7 @@ use Rattle.automata.specs.Mask.{bitOf}
 use Rattle.automata.proofs.Xor.{bool-cases, xor-cong, xor-none, eqb-same, eqb-differ}
 use Rattle.automata.proofs.Below.{up-to}
 use Rattle.rows.specs.Product.{product}
-use Rattle.rows.proofs.BitLaws.{bit-xor, bit-and, bit-or, bit-none, bit-high, bit-pow, bits-lt}
+use Rattle.rows.proofs.BitLaws.{bit-xor, bit-and, bit-or, bit-none, bit-high, bit-pow, bit-ext}
 use Rattle.rows.proofs.ProductLaws.{bit-product}
 use Rattle.basis.specs.Basis.{cell, bits, written, Room}
 use Rattle.basis.proofs.BasisLaws.{written-length, written-same, written-block, written-row}
@@ -166,12 +166,12 @@ module _ (σ n d p v y : ℕ) (t : List ℕ) (C : ℕ → ℕ → Bool) (F : Bas
         q-in = omega (arith, pivot-below)
 
   -- As many rows are found as a row has bits, so that nothing is left.
-  pub full-left : d ≡ n → left ≡ 0
-  full-left full = let h : left < 2 ^ 0 = bits-lt left 0 (λ q h. go q (bool-cases (bitOf left q))) in omega (arith, h)
+  pub full-left : n ≤ d → left ≡ 0
+  full-left full = bit-ext left 0 (λ q. clear q (bool-cases (bitOf left q)) ∙ sym (bit-none q))
     where
-      go : (q : ℕ) → (bitOf left q ≡ true) ⊎ (bitOf left q ≡ false) → bitOf left q ≡ false
-      go q (inl t) = absurd (omega (arith, both-below q t .1))
-      go q (inr f) = f
+      clear : (q : ℕ) → (bitOf left q ≡ true) ⊎ (bitOf left q ≡ false) → bitOf left q ≡ false
+      clear q (inl e) = absurd (omega (arith, both-below q e .1))
+      clear q (inr e) = e
 
 -- Where no row found has bit q, no basis row has it.
 pub unused : (σ n d p v q : ℕ) (t : List ℕ) (C : ℕ → ℕ → Bool) → BasisIn σ n d p C t → Covered σ d v t → Unused σ n p v q t

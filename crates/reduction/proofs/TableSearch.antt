@@ -24,7 +24,7 @@ use Rattle.rows.proofs.ProductLaws.{bit-product, product-lt}
 use Rattle.rows.proofs.TableLaws.{length-stored, stored-same, stored-other}
 use Rattle.basis.specs.Basis.{basisSize, cell, bits}
 use Rattle.lookup.specs.Lookup.{chosen}
-use Rattle.lookup.proofs.LookupLaws.{chosen-product}
+use Rattle.lookup.proofs.LookupLaws.{product-width, chosen-product}
 use Rattle.elimination.specs.Echelon.{onto}
 use Rattle.elimination.specs.Place.{BasisIn, Covered, Old, New, Placed}
 use Rattle.elimination.proofs.EchelonLaws.{no-echelon, gt-differ}
@@ -163,15 +163,14 @@ searching-full a t n i f ok b s d k l p v G hk hl full y hy g tab K c hc s′ e 
     z-low : z < 2 ^ n
     z-low = pivots-low n n y p refl low (omega arith)
 
-    -- However many bits a row has, the product is the same.
     eliminated : (m : ℕ) → z < 2 ^ m → product n z (cell width b 0) ≡ product m z (cell width b 0)
-    eliminated m h = sym (chosen-product (g * 4) p y (cell width b 0) (K .all) n z-low) ∙ chosen-product (g * 4) p y (cell width b 0) (K .all) m h
+    eliminated m = product-width n m z (cell width b 0) z-low
 
     left : ℕ
     left = bitXor y (product n z (cell width b 0))
 
     none : left ≡ 0
-    none = full-left width n d p v y b (bits width b 2) F low z refl (product n z (cell width b 0)) eliminated left refl full
+    none = full-left width n d p v y b (bits width b 2) F low z refl (product n z (cell width b 0)) eliminated left refl (omega arith)
 
     named : (r : ℕ) → bitOf c r ≡ onto n (bitOf p) (bits width b 2) (bitOf y) r
     named = on-pivots width n d p v y b (bits width b 2) F low z refl (product n z (cell width b 0)) eliminated left refl 2 c (hc ∙ chosen-product (g * 4) p y (cell width b 2) (K .all) n z-low)

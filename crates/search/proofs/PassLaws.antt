@@ -1,25 +1,23 @@
 -- Rows passed over: each of their products is an xor of rows found, since a table of the basis keeps it, or since as many rows are found
 -- as a row has bits.
 use mathlib.Core.Path.{_≡_, refl, sym, ap, subst, _∙_}
-use mathlib.Core.Bool.{Bool, true, false}
+use mathlib.Core.Bool.{Bool}
 use mathlib.Core.List.{List}
-use mathlib.Core.Logic.{_⊎_, inl, inr}
+use mathlib.Core.Logic.{inl}
 use Prim.Native.Nat.{ℕ, zero, suc, _+_, _-_, _*_, _^_, _<_, _≤_}
 use native.Mathlib.Numerals.{add-one}
 use native.Mathlib.Omega.{arith}
 use lib.Bits.{bitAnd, bitXor, xor-self}
 use Rattle.automata.specs.Mask.{bitOf}
-use Rattle.automata.proofs.Xor.{bool-cases}
 use Rattle.rows.specs.Row.{width}
 use Rattle.rows.specs.Product.{product}
-use Rattle.rows.proofs.BitLaws.{bit-none, bit-ext}
 use Rattle.rows.proofs.ProductLaws.{product-lt}
 use Rattle.basis.specs.Basis.{cell}
 use Rattle.lookup.specs.Lookup.{chosen, Kept}
 use Rattle.lookup.proofs.LookupLaws.{product-width, chosen-product}
 use Rattle.elimination.specs.Echelon.{onto}
 use Rattle.elimination.specs.Place.{BasisIn, Placed}
-use Rattle.elimination.proofs.PlaceLaws.{pivots-low, place-old, both-below}
+use Rattle.elimination.proofs.PlaceLaws.{pivots-low, place-old, full-left}
 use Rattle.hunt.specs.Hunt.{Hunting}
 use Rattle.hunt.proofs.HuntLaws.{hunting-old, hunting-next}
 
@@ -54,12 +52,8 @@ full-known σ n d p v y b full low C F = (C, onto n (bitOf p) C (bitOf y), inl (
     made : (m : ℕ) → z < 2 ^ m → x ≡ product m z (cell σ b 0)
     made m = product-width n m z (cell σ b 0) (pivots-low n n y p refl low (omega arith))
 
-    clear : (q : ℕ) → (bitOf left q ≡ true) ⊎ (bitOf left q ≡ false) → bitOf left q ≡ false
-    clear q (inl e) = absurd (omega (arith, both-below σ n d p v y b C F low z refl x made left refl q e .1))
-    clear q (inr e) = e
-
     none : left ≡ 0
-    none = bit-ext left 0 (λ q. clear q (bool-cases (bitOf left q)) ∙ sym (bit-none q))
+    none = full-left σ n d p v y b C F low z refl x made left refl full
 
 module _ (σ a : ℕ) (M : ℕ → ℕ → ℕ) (n i f : ℕ) (hn : n ≤ width) (rows : (l j : ℕ) → l < a → j < n → M l j < 2 ^ n) (b w : List ℕ) (d p v : ℕ) where
   short : (k l : ℕ) → l < a → product n (cell σ b 1 k) (M l) < 2 ^ n
