@@ -123,6 +123,27 @@ fn try_three(
     Hunt::Going(r)
 }
 
+// The same over three letters or more.
+fn try_letters(
+    first: &[u8],
+    second: &[u8],
+    m: Machine,
+    b: &mut [u64],
+    stride: usize,
+    w: &mut Trail,
+    s: Size,
+    k: usize,
+    x: Row,
+) -> Hunt
+    requires { ⌜ Paired (now first) (now second) m × HuntingIn stride (now first) (now second) m (now b) (now w) s k 0 × (k < s .count) × (mask x ≡ cell stride (now b) 1 k) ⌝ }
+    ensures { λ r. ⌜ HuntedIn stride (now (first .entry)) (now (second .entry)) m (now (b .exit)) (now (w .exit)) (s .count) (k + 1) 0 r ⌝ }
+{
+    if m.letters == 3 {
+        return try_three(first, second, m, b, stride, w, s, k, x);
+    }
+    try_line(first, second, m, b, stride, w, s, k, x)
+}
+
 // The same for a row whose halves have at most one bit each, n the states of the first record: a product is then two rows read.
 fn try_single(
     first: &[u8],
@@ -153,34 +174,6 @@ fn try_single(
         l += 1;
     }
     Hunt::Going(r)
-}
-
-// Row k by every letter, by the shortest way for so many letters, and for its bits.
-fn try_row(
-    first: &[u8],
-    second: &[u8],
-    m: Machine,
-    b: &mut [u64],
-    stride: usize,
-    w: &mut Trail,
-    s: Size,
-    k: usize,
-) -> Hunt
-    requires { ⌜ Paired (now first) (now second) m × HuntingIn stride (now first) (now second) m (now b) (now w) s k 0 × (k < s .count) ⌝ }
-    ensures { λ r. ⌜ HuntedIn stride (now (first .entry)) (now (second .entry)) m (now (b .exit)) (now (w .exit)) (s .count) (k + 1) 0 r ⌝ }
-{
-    let x = basis::get(b, stride, 1, k);
-    if m.letters == 2 {
-        return try_two(first, second, m, b, stride, w, s, k, x);
-    }
-    let n = record::size(first[5]);
-    if pair_products::are_single(n, x) {
-        return try_single(first, second, m, b, stride, w, s, k, x, n);
-    }
-    if m.letters == 3 {
-        return try_three(first, second, m, b, stride, w, s, k, x);
-    }
-    try_line(first, second, m, b, stride, w, s, k, x)
 }
 
 // Whether the table keeps the products of the row x by every letter.
@@ -221,40 +214,82 @@ fn pass_rows(
     j
 }
 
-// The rows passed over from row k on: all, where there is no room for one more row; those that the table passes, where row k - 1 found
-// nothing new, from d rows on, and a table pays: for a wide basis and a row of many bits.
-fn pass_over(
+// What a row has come to, and the row that is next.
+struct Turn {
+    hunt: Hunt,
+    next: usize,
+}
+
+// Row k, which is x and has many bits, by every letter. Where it finds nothing new, so will most rows after it, and in a wide basis a
+// table of it pays.
+fn try_many(
     first: &[u8],
     second: &[u8],
     m: Machine,
-    b: &[u64],
+    b: &mut [u64],
     stride: usize,
+    w: &mut Trail,
     s: Size,
-    d: usize,
     k: usize,
-) -> usize
-    requires { ⌜ Paired (now first) (now second) m × ((w : List ℕ) × HuntingIn stride (now first) (now second) m (now b) w s k 0) × (k ≤ s .count) ⌝ }
-    ensures { λ r. ⌜ ((w : List ℕ) → HuntingIn stride (now (first .entry)) (now (second .entry)) m (now (b .entry)) w s k 0 → HuntingIn stride (now (first .entry)) (now (second .entry)) m (now (b .entry)) w s r 0) × (k ≤ r) × (r ≤ s .count) ⌝ }
+    x: Row,
+) -> Turn
+    requires { ⌜ Paired (now first) (now second) m × HuntingIn stride (now first) (now second) m (now b) (now w) s k 0 × (k < s .count) × (mask x ≡ cell stride (now b) 1 k) ⌝ }
+    ensures { λ r. ⌜ HuntedIn stride (now (first .entry)) (now (second .entry)) m (now (b .exit)) (now (w .exit)) (r .next) (r .next) 0 (r .hunt) × (k < r .next) ⌝ }
 {
-    let c = s.count;
-    if m.states <= c {
-        return c;
-    }
+    let h = try_letters(first, second, m, b, stride, w, s, k, x);
+    let Hunt::Going(r) = h else {
+        return Turn {
+            hunt: h,
+            next: k + 1,
+        };
+    };
     if stride < basis::WIDEST {
-        return k;
+        return Turn {
+            hunt: h,
+            next: k + 1,
+        };
     }
-    if d < c {
-        return k;
+    if s.count < r.count {
+        return Turn {
+            hunt: h,
+            next: k + 1,
+        };
     }
-    if c <= k {
-        return k;
+    Turn {
+        hunt: h,
+        next: pass_rows(first, second, m, b, stride, r, k + 1),
     }
+}
+
+// Row k by every letter, by the shortest way for so many letters, and for its bits, with the rows that are passed over after it.
+fn try_row(
+    first: &[u8],
+    second: &[u8],
+    m: Machine,
+    b: &mut [u64],
+    stride: usize,
+    w: &mut Trail,
+    s: Size,
+    k: usize,
+) -> Turn
+    requires { ⌜ Paired (now first) (now second) m × HuntingIn stride (now first) (now second) m (now b) (now w) s k 0 × (k < s .count) ⌝ }
+    ensures { λ r. ⌜ HuntedIn stride (now (first .entry)) (now (second .entry)) m (now (b .exit)) (now (w .exit)) (r .next) (r .next) 0 (r .hunt) × (k < r .next) ⌝ }
+{
     let x = basis::get(b, stride, 1, k);
+    if m.letters == 2 {
+        return Turn {
+            hunt: try_two(first, second, m, b, stride, w, s, k, x),
+            next: k + 1,
+        };
+    }
     let n = record::size(first[5]);
     if pair_products::are_single(n, x) {
-        return k;
+        return Turn {
+            hunt: try_single(first, second, m, b, stride, w, s, k, x, n),
+            next: k + 1,
+        };
     }
-    pass_rows(first, second, m, b, stride, s, k)
+    try_many(first, second, m, b, stride, w, s, k, x)
 }
 
 // Every row by every letter, until a row is accepted.
@@ -273,12 +308,13 @@ fn try_rows(
     let mut r = s;
     let mut k: usize = 0;
     while k < r.count {
-        let h = try_row(first, second, m, b, stride, w, r, k);
+        let t = try_row(first, second, m, b, stride, w, r, k);
+        let h = t.hunt;
         let Hunt::Going(next) = h else {
             return h;
         };
-        k = pass_over(first, second, m, b, stride, next, r.count, k + 1);
         r = next;
+        k = t.next;
     }
     Hunt::Going(r)
 }

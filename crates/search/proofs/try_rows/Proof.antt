@@ -43,23 +43,15 @@ same-length : tie.Need-same-length Inv-loop μ-loop
 same-length c = search needs
 
 returns : tie.Need-returns Inv-loop μ-loop
-returns c = rw (c .enum-told .given .1) (rw (c .enum-told .given .1) at (c .before .before .before .before .try-row .ensures))
-
-add-pass-over : tie.Need-add-pass-over Inv-loop μ-loop
-add-pass-over c = omega (arith, below (c .before .before .before .before .before .before .before .before .before .before .before))
-
-pass-over-requires : tie.Need-pass-over-requires Inv-loop μ-loop
-pass-over-requires c κs =
-    let e = rw (c .before .before .h .given .1) at (c .before .before .before .before .before .before .try-row .ensures) in
-    (c .before .before .before .before .before .before .before .before .before .before .before .before .before .before .before .pre .0, (c .before .before .before .before .before .before .try-row .last .1 .1 .1 .1 .1 .0, e .0), omega (arith, e .1, c .before .before .before .before .before .before .before .before .before .if1 .taken))
+returns c = rw (c .enum-told .given .1) (rw (c .enum-told .given .1) at (c .before .before .before .before .try-row .ensures .0))
 
 loop-less : tie.Need-loop-less Inv-loop μ-loop
-loop-less c = omega (arith, below (c .before .before .before .before .before .before .before .before .before .before .before .before), c .pass-over .ensures .1, c .before .before .before .before .before .before .before .before .before .before .if1 .taken)
+loop-less c = omega (arith, below (c .before .before .before .before .before .before .before .before .before .before), c .before .before .before .before .before .try-row .ensures .1, c .before .before .before .before .before .before .before .before .if1 .taken)
 
 loop-again : tie.Need-loop-again Inv-loop μ-loop
 loop-again c =
-    let e = rw (c .before .before .before .h .given .1) at (c .before .before .before .before .before .before .before .try-row .ensures) in
-    (c .pass-over .ensures .2, c .pass-over .ensures .0 (c .before .before .before .before .before .before .before .try-row .last .1 .1 .1 .1 .1 .0) (e .0), omega arith)
+    let e = rw (c .before .h .given .1) at (c .before .before .before .before .before .try-row .ensures .0) in
+    (e .1, e .0, omega arith)
 
 same-length-2 : tie.Need-same-length-2 Inv-loop μ-loop
 same-length-2 c = search needs
@@ -82,8 +74,6 @@ try-rows-spec =
     enum-told
     same-length
     returns
-    add-pass-over
-    pass-over-requires
     loop-less
     loop-again
     same-length-2
