@@ -139,17 +139,22 @@ static void agree(int cases) {
     for (int k = 0; k < cases; k++) {
         int n = random64() % 33, a = 1 + random64() % 8;
         Machine m = dense(n, a, (random64() % 5) * 0.2 + 0.05);
+        if (n % 2 == 0 && random64() % 4 == 0) m = other_basis(doubled(dense(n / 2, a)));
         Machine o = random64() % 2 ? other_basis(m) : dense(random64() % 33, a, 0.3);
         Bytes x = record_of(m), y = record_of(o);
-        u8 b[2][NXA_RECORD_MAX], w[2][64];
+        u8 b[3][NXA_RECORD_MAX], w[3][64];
         std::memset(b, 0xEE, sizeof b);
         std::memset(w, 0xEE, sizeof w);
         MinAnswer p = minimal(x.data(), x.size(), b[0], NXA_RECORD_MAX);
+        MinAnswer t = tuned::minimal(x.data(), x.size(), b[2], NXA_RECORD_MAX);
         nxa_reply v = nxa_minimal(x.data(), x.size(), b[1], NXA_RECORD_MAX);
         if ((size_t)p.dim != v.value || (size_t)p.len != v.length || std::memcmp(b[0], b[1], NXA_RECORD_MAX)) disagree("minimal");
+        if (p.dim != t.dim || p.len != t.len || std::memcmp(b[0], b[2], NXA_RECORD_MAX)) disagree("minimal, of the yardstick's two");
         CmpAnswer q = compare(x.data(), x.size(), y.data(), y.size(), w[0], 64);
+        CmpAnswer e = tuned::compare(x.data(), x.size(), y.data(), y.size(), w[2], 64);
         nxa_reply c = nxa_compare(x.data(), x.size(), y.data(), y.size(), w[1], 64);
-        if ((q.kind == 0) != (c.value == 0) || (q.kind == 1 && (size_t)q.len != c.length) || std::memcmp(w[0], w[1], 64)) disagree("compare");
+        if (q.kind != e.kind || (q.kind == 1 && (q.len != e.len || q.by != e.by)) || std::memcmp(w[0], w[2], 64)) disagree("compare, of the yardstick's two");
+        if ((q.kind == 0) != (c.value == 0) || (q.kind == 1 && ((size_t)q.len != c.length || (size_t)q.by != c.value)) || std::memcmp(w[0], w[1], 64)) disagree("compare");
     }
     std::printf("%d random machines and pairs agree\n", cases);
 }
@@ -182,6 +187,19 @@ static void time_deterministic(int n, int a, double budget) {
     }
     time_minimal("deterministic" + size_of(n, a), in, budget);
     time_compare("deterministic, renamed" + size_of(n, a), same, budget);
+}
+
+// Machines of twice as many states as their languages need, in another basis.
+static void time_redundant(int n, int a, double budget) {
+    std::vector<Bytes> in;
+    std::vector<Pair> same;
+    for (int i = 0; i < INPUTS; i++) {
+        Machine m = dense(n / 2, a), o = other_basis(doubled(m));
+        in.push_back(record_of(o));
+        same.push_back({record_of(m), record_of(o)});
+    }
+    time_minimal("half the states needed" + size_of(n, a), in, budget);
+    time_compare("with half the states" + size_of(n, a), same, budget);
 }
 
 static void time_worst(double budget) {
@@ -220,6 +238,8 @@ int main(int argc, char** argv) {
         for (int a : {1, 2, 3, 4, 8}) time_dense(n, a, budget);
     for (int n : {4, 8, 32})
         for (int a : {1, 2, 3, 4, 8}) time_deterministic(n, a, budget);
+    for (int n : {4, 8, 32})
+        for (int a : {1, 2, 8}) time_redundant(n, a, budget);
     for (int n : {1, 2, 3, 4, 8, 16})
         for (int a : {1, 2, 3, 8}) time_single(n, a, budget / 2);
     time_worst(budget);

@@ -142,6 +142,20 @@ static inline Machine renamed(const Machine& m) {
     return o;
 }
 
+// Every state twice: each copy may begin a path, and both end it. The copies of a state cannot be told apart.
+static inline Machine doubled(const Machine& m) {
+    Machine o = m;
+    o.n = 2 * m.n;
+    o.I = m.I ^ random_row(m.n, 0.5) * ((1ull << m.n) + 1);
+    o.F = m.F | m.F << m.n;
+    for (int l = 0; l < m.a; l++)
+        for (int i = 0; i < m.n; i++) {
+            o.T[l][i] = m.T[l][i];
+            o.T[l][m.n + i] = m.T[l][i] << m.n;
+        }
+    return o;
+}
+
 static inline Bytes record_of(const Machine& m) {
     Bytes r(15 + 4 * m.a * m.n);
     write_record(m, r.data());
