@@ -1,3 +1,2 @@
-pub mod ColumnLaws
 pub mod RowLaws
-pub mod TableLaws
+pub mod AutomatonLaws

@@ -1,90 +1,99 @@
--- A row folded by the columns of a basis: its bits, and the rows of a block folded one after another.
+-- The rows of a block folded, one after another, and the blocks of a table.
 use mathlib.Core.Path.{_≡_, refl, sym, ap, ap₂, subst, _∙_}
-use mathlib.Core.Bool.{Bool, true, false, not, _&&_, and-false}
+use mathlib.Core.Bool.{Bool, true, false}
 use mathlib.Core.List.{List}
-use mathlib.Core.Logic.{_⊎_, inl, inr}
-use Prim.Native.Nat.{ℕ, _+_, _^_, _<_, _≤_}
-use native.Mathlib.Nat.{not-suc-le-zero, le-refl, lt-of-le-of-lt}
+use Prim.Native.Nat.{ℕ, suc, _+_, _*_, _^_, _<_, _≤_}
+use native.Mathlib.Nat.{not-suc-le-zero}
 use native.Mathlib.Numerals.{add-one}
 use native.Mathlib.Omega.{arith}
-use lib.Bits.{bitXor, bitAnd, xor-lt, and-le-l}
 use lib.ListN.{length}
-use Rattle.automata.specs.Xor.{_⊕_, xorBelow}
+use lib.Dec.{eqb}
+use lib.Bits.{bitXor}
+use Rattle.automata.specs.Xor.{_⊕_}
 use Rattle.automata.specs.Mask.{bitOf}
-use Rattle.automata.proofs.Xor.{xor-cong, xor-none, bool-cases}
+use Rattle.automata.proofs.Xor.{eqb-same, eqb-differ}
 use Rattle.automata.proofs.Below.{up-to}
 use Rattle.rows.specs.Row.{width}
 use Rattle.rows.specs.Table.{blocks, size, at, stored}
 use Rattle.rows.specs.Product.{product}
-use Rattle.rows.proofs.BitLaws.{bit-xor, bit-and, bit-high, bits-lt}
-use Rattle.rows.proofs.ProductLaws.{bit-product}
+use Rattle.rows.proofs.BitLaws.{bit-none, bit-xor, bit-pow}
 use Rattle.rows.proofs.TableLaws.{stored-same, stored-row}
-use Rattle.basis.specs.Basis.{cell, bits}
+use Rattle.lookup.specs.Lookup.{Tabled}
 use Rattle.transpose.specs.Exchange.{OnlyBlock}
 use Rattle.transpose.proofs.BlockLaws.{only-start, only-stored}
-use Rattle.observation.specs.Observed.{folded}
-use Rattle.folding.specs.Folding.{UnitAt, Columns, foldedBy}
-use Rattle.observation.proofs.FoldLaws.{folded-by}
+use Rattle.observation.specs.Listed.{rank, pick}
+use Rattle.folding.specs.Folding.{FoldedTo, FoldedBlocks}
+use Rattle.observation.proofs.ListedLaws.{rank-step-pivot, rank-step-other, rank-le, pick-old, pick-new, listed}
+
+-- ---- every bit below n
+
+pub record AllBelow (n y : ℕ) : Type 0 where
+  pub set : (k : ℕ) → k < n → bitOf y k ≡ true
+  pub above : (k : ℕ) → n ≤ k → bitOf y k ≡ false
+
+pub all-start : AllBelow 0 0
+all-start = record { set = λ k h. absurd (not-suc-le-zero h); above = λ k h. bit-none k }
+
+pub all-step : (n y u z : ℕ) → u ≡ 2 ^ n → z ≡ bitXor y u → AllBelow n y → AllBelow (n + 1) z
+all-step n y u z hu hz A = rw add-one (record {
+  set = up-to n (λ k h. bit k ∙ ap₂ _⊕_ (A .set k h) (eqb-differ {m = k} {n = n} (omega arith))) (bit n ∙ ap₂ _⊕_ (A .above n (omega arith)) (eqb-same n));
+  above = λ k h. bit k ∙ ap₂ _⊕_ (A .above k (omega arith)) (eqb-differ {m = k} {n = n} (omega arith));
+})
+  where
+    bit : (k : ℕ) → bitOf z k ≡ bitOf y k ⊕ eqb k n
+    bit k = ap (λ x. bitOf x k) hz ∙ bit-xor k y u ∙ ap (λ b. bitOf y k ⊕ b) (ap (λ x. bitOf x k) hu ∙ bit-pow n k)
 
 -- ---- one row
 
-without : (a b : Bool) → a ⊕ (a && b) ≡ a && not b
-without true b = refl
-without false b = refl
+pub folded-start : (l p g : ℕ) (tab t : List ℕ) → length t ≡ size → FoldedTo l 0 p g tab t t
+unfolding rank
+folded-start l p g tab t h = record { rows = λ M T j z. absurd (not-suc-le-zero z); rest = λ i h g. refl; only = only-start l t h }
 
--- The bits of x that are no pivots.
-bit-off : (p x j : ℕ) → bitOf (bitXor x (bitAnd x p)) j ≡ bitOf x j && not (bitOf p j)
-bit-off p x j = bit-xor j x (bitAnd x p) ∙ ap (λ c. bitOf x j ⊕ c) (bit-and j x p) ∙ without (bitOf x j) (bitOf p j)
+module _ (l k p g : ℕ) (tab t s : List ℕ) (F : FoldedTo l k p g tab t s) where
+  -- Row k is no pivot.
+  pub folded-other : bitOf p k ≡ false → FoldedTo l (k + 1) p g tab t s
+  folded-other e = record {
+    rows = λ M T j h. let z : j < rank (bitOf p) k = subst (λ r. j < r) (rank-step-other (bitOf p) k e) h in F .rows M T j z ∙ ap (λ i. product (g * 4) (at t l i) M) (sym (pick-old (bitOf p) k j z));
+    rest = λ i h. F .rest i (omega arith);
+    only = F .only;
+  }
 
--- The steps from x to r: its bits at the pivots, its other bits, and their product with the columns.
-pub row-by : (p x on off y r : ℕ) (W : ℕ → ℕ) → on ≡ bitAnd x p → off ≡ bitXor x on → ((n : ℕ) → off < 2 ^ n → y ≡ product n off W) → r ≡ bitXor on y
-    → (n : ℕ) → x < 2 ^ n → r ≡ foldedBy n p W x
-unfolding foldedBy
-row-by p x on off y r W ho hf hy hr n low =
-    hr ∙ ap₂ bitXor ho (hy n (subst (λ z. z < 2 ^ n) (sym others) (xor-lt n x (bitAnd x p) low (lt-of-le-of-lt (and-le-l x p) low))) ∙ ap (λ z. product n z W) others)
-  where
-    others : off ≡ bitXor x (bitAnd x p)
-    others = hf ∙ ap (bitXor x) ho
-
-bit-by : (n p x : ℕ) (W : ℕ → ℕ) (k : ℕ) → bitOf (foldedBy n p W x) k ≡ (bitOf x k && bitOf p k) ⊕ xorBelow n (λ j. (bitOf x j && not (bitOf p j)) && bitOf (W j) k)
-unfolding foldedBy
-bit-by n p x W k =
-    bit-xor k (bitAnd x p) (product n (bitXor x (bitAnd x p)) W) ∙ ap₂ _⊕_ (bit-and k x p)
-    (bit-product n (bitXor x (bitAnd x p)) W k ∙ xor-cong n (λ j h. ap (λ c. c && bitOf (W j) k) (bit-off p x j)))
-
-module _ (n p x : ℕ) (b c : List ℕ) (C : Columns n n p b c) where
-  pub row-folded : UnitAt n p b → (k : ℕ) → k < n → bitOf (foldedBy n p (cell width c 2) x) k ≡ folded n (bitOf p) (bits width b 0) (bitOf x) k
-  row-folded unit k h = bit-by n p x (cell width c 2) k ∙ folded-by n (bitOf p) (bits width b 0) unit (bits width c 2) (λ j i g h e. C .columns j g e .bit i h) (bitOf x) k h
-
-  pub row-low : x < 2 ^ n → foldedBy n p (cell width c 2) x < 2 ^ n
-  row-low low = bits-lt (foldedBy n p (cell width c 2) x) n (λ k h.
-      bit-by n p x (cell width c 2) k ∙ ap₂ _⊕_ (ap (λ e. e && bitOf p k) (bit-high n low k h)) (xor-none n (λ j g. none k h j g (bool-cases (bitOf p j)))))
+  -- Row k, which is x, is the pivot of rank j, and y is x folded.
+  pub folded-pivot : l < blocks → k < width → bitOf p k ≡ true → (j x y : ℕ) (s′ : List ℕ) → j ≡ rank (bitOf p) k → x ≡ at s l k → ((M : ℕ → ℕ) → Tabled g M tab → y ≡ product (g * 4) x M) → s′ ≡ stored s l j y → FoldedTo l (k + 1) p g tab t s′
+  folded-pivot hl hk e j x y s′ hj hx hy hs = record {
+    rows = λ M T i h. up-to {Q = λ i. at s′ l i ≡ product (g * 4) (at t l (pick (bitOf p) (k + 1) i)) M} j
+        (λ i z. ap (λ u. at u l i) hs ∙ stored-row s l j y i (omega arith) ∙ F .rows M T i (before i z) ∙ ap (λ q. product (g * 4) (at t l q) M) (sym (pick-old (bitOf p) k i (before i z))))
+        (ap (λ u. at u l j) hs ∙ stored-same s l j y (F .only .size) hl low ∙ hy M T ∙ ap (λ q. product (g * 4) q M) (hx ∙ F .rest k (omega arith) hk)
+        ∙ ap (λ q. product (g * 4) (at t l q) M) (sym (ap (pick (bitOf p) (k + 1)) hj ∙ pick-new (bitOf p) k e))) i (within i h);
+    rest = λ i h w. ap (λ u. at u l i) hs ∙ stored-row s l j y i (omega (arith, few)) ∙ F .rest i (omega arith) w;
+    only = subst (λ u. OnlyBlock l t u) (sym hs) (only-stored l j y t s low (F .only));
+  }
     where
-      none : (k : ℕ) → n ≤ k → (j : ℕ) → j < n → (bitOf p j ≡ true) ⊎ (bitOf p j ≡ false) → (bitOf x j && not (bitOf p j)) && bitOf (cell width c 2 j) k ≡ false
-      none k h j g (inl e) = ap (λ z. (bitOf x j && not z) && bitOf (cell width c 2 j) k) e ∙ ap (λ z. z && bitOf (cell width c 2 j) k) (and-false (bitOf x j))
-      none k h j g (inr e) = ap (λ z. (bitOf x j && not (bitOf p j)) && z) (bit-high n (C .columns j g e .low) k h) ∙ and-false (bitOf x j && not (bitOf p j))
+      few : j ≤ k
+      few = omega (arith, rank-le (bitOf p) k)
 
--- ---- the rows of a block
+      low : j < width
+      low = omega (arith, few)
 
--- The first i rows are folded, the others are as they were.
-pub record RowsFolded (l i n p : ℕ) (W : ℕ → ℕ) (t s : List ℕ) : Type 0 where
-  pub only : OnlyBlock l t s
-  pub done : (r : ℕ) → r < i → at s l r ≡ foldedBy n p W (at t l r)
-  pub rest : (r : ℕ) → i ≤ r → at s l r ≡ at t l r
+      before : (i : ℕ) → i < j → i < rank (bitOf p) k
+      before i z = subst (λ r. i < r) hj z
 
-pub rows-start : (l n p : ℕ) (W : ℕ → ℕ) (t : List ℕ) → length t ≡ size → RowsFolded l 0 n p W t t
-rows-start l n p W t h = record { only = only-start l t h; done = λ r g. absurd (not-suc-le-zero g); rest = λ r g. refl }
+      within : (i : ℕ) → i < rank (bitOf p) (k + 1) → i < suc j
+      within i h = omega (arith, rank-step-pivot (bitOf p) k e)
 
--- x is row i, and y the same folded.
-pub rows-step : (l i n p x y : ℕ) (W : ℕ → ℕ) (t s s′ : List ℕ) → l < blocks → i < width → at t l i < 2 ^ n → x ≡ at s l i → (x < 2 ^ n → y ≡ foldedBy n p W x) → s′ ≡ stored s l i y
-    → RowsFolded l i n p W t s → RowsFolded l (i + 1) n p W t s′
-rows-step l i n p x y W t s s′ hl hi low hx hy e F = rw (e, add-one) (record {
-  only = only-stored l i y t s hi (F .only);
-  done = up-to {Q = λ r. at (stored s l i y) l r ≡ foldedBy n p W (at t l r)} i
-      (λ r h. stored-row s l i y r (omega arith) ∙ F .done r h)
-      (stored-same s l i y (F .only .size) hl hi ∙ hy (subst (λ v. v < 2 ^ n) (sym same) low) ∙ ap (foldedBy n p W) same);
-  rest = λ r h. stored-row s l i y r (omega arith) ∙ F .rest r (omega arith);
+-- ---- the blocks
+
+pub blocks-start : (n p g : ℕ) (tab t : List ℕ) → length t ≡ size → FoldedBlocks 0 n p g tab t t
+blocks-start n p g tab t h = record { rows = λ M T l j z. absurd (not-suc-le-zero z); rest = λ l i h g. refl; size = h }
+
+pub blocks-step : (l n p g : ℕ) (tab t s s′ : List ℕ) → n ≤ width → FoldedTo l n p g tab s s′ → FoldedBlocks l n p g tab t s → FoldedBlocks (l + 1) n p g tab t s′
+blocks-step l n p g tab t s s′ hn F B = rw add-one (record {
+  rows = λ M T x j h w. up-to {Q = λ x. at s′ x j ≡ product (g * 4) (at t x (pick (bitOf p) n j)) M} l
+      (λ x z. F .only .others x j (row j w) (omega arith) ∙ B .rows M T x j z w)
+      (F .rows M T j w ∙ ap (λ q. product (g * 4) q M) (B .rest l (pick (bitOf p) n j) (omega arith) (omega (arith, listed (bitOf p) n .below j w)))) x h;
+  rest = λ x i h w. F .only .others x i w (omega arith) ∙ B .rest x i (omega arith) w;
+  size = F .only .size;
 })
   where
-    same : x ≡ at t l i
-    same = hx ∙ F .rest i (le-refl i)
+    row : (j : ℕ) → j < rank (bitOf p) n → j < width
+    row j h = omega (arith, rank-le (bitOf p) n)

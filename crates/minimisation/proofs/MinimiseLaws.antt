@@ -1,6 +1,6 @@
 -- The columns that words reach, the automaton folded onto their pivots, and one reduction of that: the minimal automaton.
-use mathlib.Core.Path.{_≡_, refl, _∙_}
-use mathlib.Core.Bool.{Bool, false}
+use mathlib.Core.Path.{_≡_, refl, ap, _∙_}
+use mathlib.Core.Bool.{_&&_, and-false}
 use mathlib.Core.List.{List}
 use Prim.Native.Nat.{ℕ, _<_, _≤_}
 use Rattle.automata.specs.Automaton.{Automaton, accepts}
@@ -11,19 +11,22 @@ use Rattle.automata.specs.Operations.{mirrorOf}
 use Rattle.automata.specs.Tree.{Tree}
 use Rattle.automata.specs.MinimalOf.{minimalOf, dimensionOf}
 use Rattle.automata.specs.Fields.{fields}
+use Rattle.automata.proofs.Xor.{xor-none}
 use Rattle.automata.proofs.Dimension.{dimension-same}
 use Rattle.automata.proofs.Fields.{same-fields}
 use Rattle.automata.proofs.Tree.{tree-bits}
 use Rattle.rows.specs.Row.{width}
 use Rattle.rows.specs.Machine.{auto, Bounded}
-use Rattle.rows.proofs.BitLaws.{bit-high}
-use Rattle.basis.specs.Basis.{bits}
+use Rattle.rows.proofs.BitLaws.{bit-high, bits-lt}
+use Rattle.basis.specs.Basis.{cell, bits}
+use Rattle.elimination.specs.Place.{BasisIn}
 use Rattle.transpose.specs.Transposed.{Transposed}
 use Rattle.reduction.specs.Tables.{Reduces}
 use Rattle.observation.specs.Observed.{Observed, foldedOf}
 use Rattle.observation.specs.Explore.{Explored}
 use Rattle.observation.proofs.FoldLaws.{folded-minimal}
 use Rattle.observation.proofs.ObservedLaws.{observed}
+use Rattle.folding.specs.Folding.{LowAt, Folds}
 use Rattle.minimisation.specs.Minimises.{Minimises}
 
 pub transposed-bounded : (a n i f : ℕ) (t s : List ℕ) → Bounded a t n i f → Transposed a n t s → Bounded a s n f i
@@ -39,10 +42,17 @@ explored-columns a t n i f u b d p v T X =
     observed a (auto t n i f) (auto u n f i) (transposed-bits a n i f t u T) (λ l k j hl hk hj. bit-high n (T .low l k hl hk) j hj)
     d (X .upto) (bitOf p) (bits width b 1) (bits width b 0) (X .search .coef) (X .search .from) (X .search .by) (X .search .made) (X .search .search) (X .within) (X .enough)
 
--- The table t′ with the initial row x holds the folded automaton; s is its reduction.
-pub once : (a : ℕ) (t : List ℕ) (n i f : ℕ) (u b : List ℕ) (d p v : ℕ) (t′ : List ℕ) (x : ℕ) (b′ s : List ℕ) (e i′ f′ : ℕ)
-    → Transposed a n t u → Explored a u n f i b d p v → SameBits a (auto t′ n x f) (foldedOf (auto t n i f) (bitOf p) (bits width b 0)) → Reduces a t′ n x f b′ s e i′ f′ → Minimises a (auto t n i f) s e i′ f′
-once a t n i f u b d p v t′ x b′ s e i′ f′ T X F S = record { bounded = S .bounded; same-fields = minimal .0; dimension = minimal .1 }
+-- Its rows are as short as those that words reach.
+pub explored-low : (a : ℕ) (u : List ℕ) (n i f : ℕ) (b : List ℕ) (d p v : ℕ) → Explored a u n i f b d p v → LowAt n p b
+explored-low a u n i f b d p v X k h e = bits-lt (cell width b 0 k) n (λ j g. F .sum k h e j ∙ xor-none d (λ r q. ap (λ z. X .search .coef k r && z) (F .thin r q j g) ∙ and-false (X .search .coef k r)))
+  where
+    F : BasisIn width n d p (X .search .coef) b
+    F = X .search .search .basis
+
+-- The table t′ holds the folded automaton; s is its reduction.
+pub once : (a : ℕ) (t : List ℕ) (n i f : ℕ) (u b : List ℕ) (d p v : ℕ) (t′ : List ℕ) (r x y : ℕ) (b′ s : List ℕ) (e i′ f′ : ℕ)
+    → Transposed a n t u → Explored a u n f i b d p v → Folds a (auto t n i f) p b t′ r x y → Reduces a t′ r x y b′ s e i′ f′ → Minimises a (auto t n i f) s e i′ f′
+once a t n i f u b d p v t′ r x y b′ s e i′ f′ T X F S = record { bounded = S .bounded; same-fields = minimal .0; dimension = minimal .1 }
   where
     A : Automaton
     A = auto t n i f
@@ -50,11 +60,11 @@ once a t n i f u b d p v t′ x b′ s e i′ f′ T X F S = record { bounded = 
     B : Automaton
     B = auto s e i′ f′
 
-    tree : Tree a (foldedOf A (bitOf p) (bits width b 0)) B e (bits width b′ 1) (S .from) (S .by)
-    tree = tree-bits a (foldedOf A (bitOf p) (bits width b 0)) (auto t′ n x f) B e (bits width b′ 1) (S .from) (S .by) F (S .tree)
+    tree : Tree a (foldedOf A (bits width b 0) r (F .σ)) B e (bits width b′ 1) (S .from) (S .by)
+    tree = tree-bits a (foldedOf A (bits width b 0) r (F .σ)) (auto t′ r x y) B e (bits width b′ 1) (S .from) (S .by) (F .same) (S .tree)
 
     minimal : (fields a B ≡ fields a (minimalOf a A)) × (e ≡ dimensionOf a A)
-    minimal = folded-minimal a A B (bitOf p) (bits width b 0) (explored-columns a t n i f u b d p v T X) e (bits width b′ 1) (S .from) (S .by) tree
+    minimal = folded-minimal a A B (bitOf p) (bits width b 0) (explored-columns a t n i f u b d p v T X) r (F .σ) (F .listed) e (bits width b′ 1) (S .from) (S .by) tree
 
 -- What is minimal for one automaton is minimal for every other with the same words.
 pub minimises-same : (a : ℕ) (A B : Automaton) (s : List ℕ) (d i f : ℕ) → Same a (accepts A) (accepts B) → Minimises a A s d i f → Minimises a B s d i f

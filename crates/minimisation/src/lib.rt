@@ -1,4 +1,4 @@
-// The minimal automaton: the columns that words reach tell which states to fold, and one reduction of the folded automaton does the rest.
+// The minimal automaton: a basis of the columns that words reach, the automaton folded onto its pivots, and one reduction of that.
 ghost use mathlib.Core.Path.{_≡_};
 ghost use lib.ListN.{length};
 ghost use Rattle.rows.specs.Row.{mask};
@@ -10,7 +10,7 @@ use basis::Basis;
 use rows::Machine;
 use rows::Table;
 
-// The minimal automaton of t and m, its rows in c. The rows of t are folded, and the basis b is for work.
+// The minimal automaton of t and m, its rows in c. The table t is left with the folded automaton, and the basis b is for work.
 pub fn minimise(t: &mut Table, m: Machine, b: &mut Basis, c: &mut Table) -> Machine
     requires { ⌜ Valid (now t) m × (length (now b) ≡ basisSize) × (length (now c) ≡ size) ⌝ }
     ensures { λ r. ⌜ (r .letters ≡ m .letters) × Minimises (m .letters) (automatonIn (now (t .entry)) m) (now (c .exit)) (r .states) (mask (r .initial)) (mask (r .finals)) ⌝ }
@@ -31,16 +31,6 @@ pub fn minimise(t: &mut Table, m: Machine, b: &mut Basis, c: &mut Table) -> Mach
         b,
     );
     let p = s.pivots;
-    let x = folding::fold(b, p, t, m);
-    reduction::reduce(
-        t,
-        Machine {
-            states: n,
-            letters: a,
-            initial: x,
-            finals: f,
-        },
-        b,
-        c,
-    )
+    let g = folding::fold(b, p, t, m, c);
+    reduction::reduce(t, g, b, c)
 }

@@ -1,3 +1,4 @@
+pub mod ListedLaws
 pub mod FoldLaws
 pub mod ObservedLaws
 pub mod ExploreLaws

@@ -1,8 +1,8 @@
 -- The columns of an automaton that words reach, by a reduced basis, and the automaton folded onto the pivots of that basis.
 -- The column of a word names the states that accept it; a row accepts the word if it shares an odd number of bits with the column.
 --   Observed       what the search over the mirror finds
---   folded         a row on the pivots alone, such that it accepts the same words
---   foldedOf       the automaton with every row folded
+--   folded         a row in coordinates of the pivots, such that it accepts the same words
+--   foldedOf       the automaton on the pivots, with every row folded
 use mathlib.Core.Path.{_≡_}
 use mathlib.Core.Bool.{Bool, true, false, _&&_}
 use mathlib.Core.List.{List}
@@ -23,10 +23,10 @@ pub record Observed (a : ℕ) (A : Automaton) (P : ℕ → Bool) (E : ℕ → �
   -- A row that accepts nothing shares an even number of bits with every basis row.
   pub seen : (r : ℕ → Bool) → ((v : List ℕ) → Over a v → rowAccepts A r v ≡ false) → (j : ℕ) → j < A .states → P j ≡ true → xorBelow (A .states) (λ i. r i && E j i) ≡ false
 
--- The row r on the pivots alone, such that it accepts the same words.
-abbrev pub folded : ℕ → (ℕ → Bool) → (ℕ → ℕ → Bool) → (ℕ → Bool) → ℕ → Bool
-folded n P E r k = P k && xorBelow n (λ i. r i && E k i)
+-- Bit j of a folded row: whether the row r shares an odd number of bits with the basis row of the j-th pivot, σ j.
+abbrev pub folded : ℕ → (ℕ → ℕ → Bool) → (ℕ → ℕ) → (ℕ → Bool) → ℕ → Bool
+folded n E σ r j = xorBelow n (λ i. r i && E (σ j) i)
 
--- The automaton with every row folded.
-abbrev pub foldedOf : Automaton → (ℕ → Bool) → (ℕ → ℕ → Bool) → Automaton
-foldedOf A P E = record { states = A .states; initial = folded (A .states) P E (A .initial); final = A .final; step = λ l i. folded (A .states) P E (A .step l i) }
+-- The automaton on the d pivots that σ lists, every row folded: it accepts the same words.
+abbrev pub foldedOf : Automaton → (ℕ → ℕ → Bool) → ℕ → (ℕ → ℕ) → Automaton
+foldedOf A E d σ = record { states = d; initial = folded (A .states) E σ (A .initial); final = λ j. A .final (σ j); step = λ l j. folded (A .states) E σ (A .step l (σ j)) }

@@ -1,7 +1,10 @@
--- `fold`: where every state is a pivot nothing changes; else the table and the initial row are folded by the columns.
+-- `fold`: nothing changes where every state is a pivot; else every row is looked up among the columns.
+use mathlib.Core.Path.{refl}
 use borrow.Author.Needs.{needs}
-use Rattle.rows.specs.Row.{mask}
-use Rattle.folding.proofs.TableLaws.{automaton-folded, automaton-full}
+use Rattle.rows.specs.Row.{width, mask}
+use Rattle.basis.specs.Basis.{cell}
+use Rattle.lookup.specs.Lookup.{chosen}
+use Rattle.folding.proofs.AutomatonLaws.{automaton-full, automaton-folded}
 use Rattle.folding.proofs.fold.Statement.{statement}
 use Rattle.folding.proofs.fold.Tie as tie
 
@@ -10,30 +13,52 @@ is-full-requires c κs = search needs
 
 returns : tie.Need-returns
 returns c =
-    let f = c .before .is-full in
-    let s = c .before .before .before in
+    let s = c .before .before in
     let a = s .args in
     let m = a .m in
-    (s .pre .0, automaton-full (m .letters) (m .states) (mask (m .initial)) (mask (m .finals)) (mask (a .p)) (a .b .now) (a .t .now) (s .pre .0) (s .pre .2) (f .ensures (c .if1 .taken)), s .pre .1)
+    (refl, automaton-full (m .letters) (a .t .now) (m .states) (mask (m .initial)) (mask (m .finals)) (s .pre .0) (mask (a .p)) (a .b .now) (s .pre .2) (c .before .is-full .ensures (c .if1 .taken)), s .pre .4)
 
 columns-requires : tie.Need-columns-requires
 columns-requires c κs = search needs
 
+all-below-requires : tie.Need-all-below-requires
+all-below-requires c κs = search needs
+
+fill-requires : tie.Need-fill-requires
+fill-requires c κs = search needs
+
 fold-table-requires : tie.Need-fold-table-requires
 fold-table-requires c κs = search needs
 
-fold-row-requires : tie.Need-fold-row-requires
-fold-row-requires c κs = tt
+times-requires : tie.Need-times-requires
+times-requires c κs = search needs
+
+and-requires : tie.Need-and-requires
+and-requires c κs = search needs
+
+times-requires-2 : tie.Need-times-requires-2
+times-requires-2 c κs = search needs
 
 returns-2 : tie.Need-returns-2
 returns-2 c =
-    let f = c .before .before .fold-table in
-    let k = c .before .before .before .before .before in
-    let s = k .before .before .before .before .before in
+    let s = c .before .before .before .before .before .before .before .before .before .before .before .before .before .before .before .before .before in
     let a = s .args in
     let m = a .m in
-    let A = automaton-folded (m .letters) (m .states) (mask (m .initial)) (mask (m .finals)) (mask (a .p)) (a .b .now) (a .t .now) (s .pre .0) (s .pre .2) (mask (c .fold-row .result)) (k .columns .last .0) (f .last .1 .1 .0) (k .columns .ensures) (f .ensures) (c .fold-row .ensures (m .states)) in
-    (A .0, A .1, k .columns .ensures .size)
+    let k = c .before .before .before .before .before .before .before .before .before .before .before .before .before .columns in
+    let w = k .last .1 .1 .1 .0 in
+    let o = c .before .before .before .before .before .before .before .before .before .before .all-below in
+    let f = c .before .before .before .before .before .before .before .before .fill in
+    let tab = f .last .1 .1 .1 .1 .0 in
+    let M = chosen (mask (o .result)) (cell width w 0) in
+    let T = f .ensures .2 in (
+      refl,
+      automaton-folded (m .letters) (a .t .now) (m .states) (mask (m .initial)) (mask (m .finals)) (s .pre .0) (mask (a .p)) (a .b .now) (s .pre .2) (k .result) (k .ensures .0) w (k .ensures .1)
+          (mask (o .result)) (o .ensures .0) (o .ensures .1) (f .result) tab (f .ensures .1) T (c .before .before .before .before .before .fold-table .last .1 .1 .1 .0) (c .before .before .before .before .before .fold-table .ensures)
+          (mask (c .before .before .before .times .result)) (mask (c .before .and .result)) (mask (c .times2 .result)) (c .before .before .before .times .ensures M T) (c .before .and .ensures) (c .times2 .ensures M T),
+      k .ensures .2,
+    )
 
 pub fold-spec : {M : Type 1} → statement M
-fold-spec = tie.close (tie.spec is-full-requires returns columns-requires fold-table-requires fold-row-requires returns-2)
+fold-spec =
+    tie.close
+    (tie.spec is-full-requires returns columns-requires all-below-requires fill-requires fold-table-requires times-requires and-requires times-requires-2 returns-2)

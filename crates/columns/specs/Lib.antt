@@ -1,0 +1,3 @@
+-- The definitions that the contracts on columns cite.
+pub mod Columns
+pub mod Laid
