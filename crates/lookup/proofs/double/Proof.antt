@@ -1,8 +1,7 @@
 -- `double`: the first v are done.
-use mathlib.Core.Path.{_≡_, refl}
-use Prim.Native.Nat.{ℕ, _+_, _-_, _≤_}
+use mathlib.Core.Path.{_≡_}
+use Prim.Native.Nat.{_-_, _≤_}
 use native.Mathlib.Omega.{arith}
-use borrow.Author.Needs.{needs}
 use Rattle.rows.specs.Row.{mask}
 use Rattle.lookup.specs.Lookup.{Doubled}
 use Rattle.lookup.proofs.LookupLaws.{doubled-none, doubled-step}

@@ -1,8 +1,7 @@
 -- `times`: the groups passed have given their part of the product, and z has the bits to come.
-use mathlib.Core.Path.{_≡_, ap}
-use Prim.Native.Nat.{ℕ, _+_, _-_, _*_, _/_, _%_, _^_, _≤_}
+use mathlib.Core.Path.{_≡_}
+use Prim.Native.Nat.{ℕ, _-_, _*_, _/_, _^_, _≤_}
 use native.Mathlib.Omega.{arith}
-use borrow.Author.Needs.{needs}
 use Rattle.rows.specs.Row.{mask}
 use Rattle.rows.specs.Product.{product}
 use Rattle.lookup.specs.Lookup.{Tabled}

@@ -1,7 +1,5 @@
 -- `are_kept`: the products stand in a line.
 use mathlib.Core.Path.{refl, sym, subst}
-use native.Mathlib.Omega.{arith}
-use borrow.Author.Needs.{needs}
 use denote.Ref.{now}
 use Rattle.rows.specs.Row.{mask}
 use Rattle.kernels.specs.Products.{Products}
