@@ -1,7 +1,7 @@
 // How the time of the minimal service grows with the states n and the letters a, beside the row additions that the algorithm needs: for each
 // product the bits of its row, for each elimination the pivots that it meets, for each new row the basis rows that it changes, each of the
-// last two twice where coefficients are kept; for a row folded the bits that are no pivots; for coefficients looked up a row for every four bits, and
-// fifteen to make each four's entries. Beside it the additions of two reductions, the first of the mirror.
+// last two twice where coefficients are kept; for a row looked up, its coefficients or what it
+// is folded, one for every four bits, and fifteen to make each four's entries. Beside it the additions of two reductions, the first of the mirror.
 #define NO_MAIN
 #include "baseline.cpp"
 #include "machines.hpp"
@@ -83,24 +83,31 @@ static Basis explored(Machine m) {
     return b;
 }
 
-// The row x with its bits that are no pivots replaced by the pivots whose basis rows have them.
-static u64 folded(Basis& b, u64 x) {
-    u64 y = x & b.pivots;
-    for (u64 off = x & ~b.pivots; off; off &= off - 1, b.additions++)
-        for (u64 p = b.pivots; p; p &= p - 1) {
-            int j = __builtin_ctzll(p);
-            if (b.row[j] >> __builtin_ctzll(off) & 1) y ^= 1ull << j;
-        }
+// The row x on the pivots, which are the states then.
+static u64 folded(Basis& b, int n, u64 x) {
+    u64 y = 0;
+    int rank = 0;
+    for (u64 p = b.pivots; p; p &= p - 1, rank++) y |= (u64)odd(x & b.row[__builtin_ctzll(p)]) << rank;
+    b.additions += (n + 3) / 4;
     return y;
 }
 
-static size_t additions(Machine m) {
+static size_t additions(const Machine& m) {
     Basis b = explored(m);
-    m.I = folded(b, m.I);
-    for (int l = 0; l < m.a; l++)
-        for (int i = 0; i < m.n; i++) m.T[l][i] = folded(b, m.T[l][i]);
-    Machine out;
-    return b.additions + reduced(m, out, true);
+    Machine f = m, out;
+    if (b.count < m.n) {
+        b.additions += (m.n + 3) / 4 * 15;
+        f.n = b.count;
+        f.I = folded(b, m.n, m.I);
+        int rank = 0;
+        f.F = 0;
+        for (u64 p = b.pivots; p; p &= p - 1, rank++) {
+            int state = __builtin_ctzll(p);
+            f.F |= (m.F >> state & 1) << rank;
+            for (int l = 0; l < m.a; l++) f.T[l][rank] = folded(b, m.n, m.T[l][state]);
+        }
+    }
+    return b.additions + reduced(f, out, true);
 }
 
 static size_t of_two_reductions(Machine m) {
