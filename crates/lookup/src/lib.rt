@@ -37,18 +37,30 @@ fn chosen(b: &[u64], stride: usize, l: usize, p: Row, j: usize) -> Row
     rows::when(o, x)
 }
 
-// Group g: its first entry takes no row, and each of the four rows doubles what stands there.
+// Group g, of the rows x0 to x3: its first entry takes no row, and each of the four rows doubles what stands there.
+pub fn put_group(tab: &mut Lookup, g: usize, x0: Row, x1: Row, x2: Row, x3: Row)
+    requires { ⌜ (g < groups) × (length (now tab) ≡ lookupSize) ⌝ }
+    ensures { λ _. ⌜ ((M : ℕ → ℕ) → mask x0 ≡ M (g * 4) → mask x1 ≡ M (g * 4 + 1) → mask x2 ≡ M (g * 4 + 2) → mask x3 ≡ M (g * 4 + 3) → Grouped g M (now (tab .entry)) (now (tab .exit))) ⌝ }
+{
+    let at = g * 16;
+    tab[at] = 0;
+    double(tab, at, 1, x0);
+    double(tab, at, 2, x1);
+    double(tab, at, 4, x2);
+    double(tab, at, 8, x3);
+}
+
+// Group g of the rows of block l at the bits of p.
 fn fill_group(b: &[u64], stride: usize, l: usize, p: Row, tab: &mut Lookup, g: usize)
     requires { ⌜ Room stride (now b) × (width ≤ stride) × (l < parts) × (g < groups) × (length (now tab) ≡ lookupSize) ⌝ }
     ensures { λ _. ⌜ Grouped g (chosen (mask p) (cell stride (now (b .entry)) l)) (now (tab .entry)) (now (tab .exit)) ⌝ }
 {
-    let at = g * 16;
     let j = g * 4;
-    tab[at] = 0;
-    double(tab, at, 1, chosen(b, stride, l, p, j));
-    double(tab, at, 2, chosen(b, stride, l, p, j + 1));
-    double(tab, at, 4, chosen(b, stride, l, p, j + 2));
-    double(tab, at, 8, chosen(b, stride, l, p, j + 3));
+    let x0 = chosen(b, stride, l, p, j);
+    let x1 = chosen(b, stride, l, p, j + 1);
+    let x2 = chosen(b, stride, l, p, j + 2);
+    let x3 = chosen(b, stride, l, p, j + 3);
+    put_group(tab, g, x0, x1, x2, x3);
 }
 
 // The table of the rows of block l at the bits of p; how many groups it has.
