@@ -1,5 +1,4 @@
 -- The rows over one letter tried in turn, and the basis that they are inserted in.
---   Trying bs cs w k x p e    x is the row of k letters, as in Powers; the basis e with the pivots p is spanned by the rows of fewer
 use mathlib.Core.Path.{_≡_, sym, ap, _∙_}
 use mathlib.Core.Bool.{Bool}
 use mathlib.Core.List.{List}
@@ -7,27 +6,26 @@ use mathlib.Core.Option.{none}
 use Prim.Native.Nat.{ℕ, suc, _+_, _^_, _<_, _≤_}
 use native.Mathlib.Nat.{lt-of-lt-of-le}
 use native.Mathlib.Numerals.{add-one}
+use lib.ListN.{length}
 use lib.Bits.{bitXor}
 use lib.Pow.{pow-mono}
 use Rattle.automata.specs.Mask.{bitOf}
 use Rattle.automata.specs.FirstDifference.{firstDifference}
 use Rattle.automata.proofs.Xor.{xor-zero}
 use Rattle.rows.specs.declared.Machine.{Machine}
+use Rattle.rows.specs.declared.Row.{Row}
 use Rattle.rows.specs.Row.{mask}
 use Rattle.rows.proofs.BitLaws.{bit-xor, bit-none, bit-ext}
 use Rattle.record.specs.Record.{statesOf, lettersOf, automatonOf}
 use Rattle.hunt.specs.Both.{Paired}
 use Rattle.hunt.proofs.BothLaws.{paired-initial}
-use Rattle.triangular.specs.Triangular.{Spanned, Triangular, Inserted}
+use Rattle.triangular.specs.Triangular.{Inserted}
 use Rattle.triangular.proofs.SpanLaws.{span-own, spanned-more, spanned-start}
+use Rattle.trail.specs.Trail.{trailSize}
+use Rattle.verdict.specs.Judged.{Undecided}
 use Rattle.verdict.proofs.RowLaws.{row-start, row-below}
-use Rattle.unary.specs.Powers.{power, rowsOf, Powers}
+use Rattle.unary.specs.Powers.{power, rowsOf, Powers, Trying}
 use Rattle.unary.proofs.PowerLaws.{powers-spanned}
-
-pub record Trying (bs cs w : List ℕ) (k x p : ℕ) (e : List ℕ) : Type 0 where
-  pub powers : Powers bs cs w k x
-  pub shape : Triangular p e
-  pub span : Spanned (statesOf bs + statesOf cs) k (rowsOf bs cs) p e
 
 -- Rows whose xor has no bit are the same.
 pub same-row : (x y : ℕ) → bitXor x y ≡ 0 → x ≡ y
@@ -63,3 +61,7 @@ module _ (bs cs : List ℕ) (m : Machine) (P : Paired bs cs m) where
   -- The row of one letter is the initial row.
   pub initial-again : (w : List ℕ) (z : ℕ) → Powers bs cs w 1 z → m .letters ≡ 1 → z ≡ mask (m .initial) → firstDifference (lettersOf bs) (automatonOf bs) (automatonOf cs) ≡ none
   initial-again w z R one q = powers-spanned bs cs m P one w 1 z R (span-own N 0 Y z (λ j h. ap (λ v. bitOf v j) q ∙ row-start bs cs m P .bits j h))
+
+-- The trail may change, as long as it is one.
+pub still-undecided : (bs cs : List ℕ) (m : Machine) (g : Row) (w w′ : List ℕ) → Undecided bs cs m g w → length w′ ≡ trailSize → Undecided bs cs m g w′
+still-undecided bs cs m g w w′ U e = record { paired = U .paired; trail = e; empty = U .empty; column = U .column }

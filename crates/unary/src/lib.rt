@@ -2,15 +2,74 @@
 // than both have states tells two languages apart, if any does; so the row of each length is tried in turn. Where a row is an xor of those
 // before it, so are all that follow, and none of them is accepted.
 ghost use mathlib.Core.Path.{_≡_};
-ghost use Prim.Native.Nat.{_≤_, _<_};
+ghost use Prim.Native.Nat.{_^_, _≤_, _<_};
 ghost use lib.ListN.{length};
-ghost use Rattle.rows.specs.Row.{mask};
+ghost use Rattle.rows.specs.Row.{width, mask};
+ghost use Rattle.record.specs.Record.{WellFormed};
 ghost use Rattle.verdict.specs.Judged.{JudgedOf, Undecided};
-ghost use Rattle.unary.specs.Powers.{Powers};
+ghost use Rattle.unary.specs.Powers.{Powers, Trying};
 use rows::Machine;
 use rows::Row;
 use trail::Trail;
 use verdict::Verdict;
+
+// How many states of both records together are few.
+const FEW: usize = 8;
+
+// How many letters are tried before a table of the matrix may pay.
+const SHORT: usize = 3;
+
+// Whether a table pays: there are more than few states, and the row y has many bits. This decides how products are made, not what they are.
+fn table_pays(first: &[u8], n: usize, y: Row) -> bool
+    requires { ⌜ WellFormed (now first) × (mask y < 2 ^ width) ⌝ }
+{
+    if n <= FEW {
+        return false;
+    }
+    !pair_products::are_single(record::size(first[5]), y)
+}
+
+// From the row z of h letters on, in a lent basis with the pivots q, each product by a table: two loops over the bits of a row, which end
+// where no processor foresees it, are then one of as many turns each time.
+fn try_tabled(
+    first: &[u8],
+    second: &[u8],
+    m: Machine,
+    g: Row,
+    e: &mut [u64],
+    w: &mut Trail,
+    z: Row,
+    q: Row,
+    h: usize,
+) -> Verdict
+    requires { ⌜ (m .letters ≡ 1) × (m .states ≤ length (now e)) × (h < m .states) × Undecided (now first) (now second) m g (now w) × Trying (now first) (now second) (now w) h (mask z) (mask q) (now e) ⌝ }
+    ensures { λ r. ⌜ JudgedOf (now (first .entry)) (now (second .entry)) (now (w .exit)) r ⌝ }
+{
+    let n = m.states;
+    let f = m.finals;
+    let mut tab = [0u64; 256];
+    let c = pair_lookup::fill(first, second, 0, &mut tab);
+    let mut pivots = q;
+    let mut y = z;
+    let mut j: usize = h;
+    while j + 1 < n {
+        let t = triangular::insert(e, pivots, y);
+        if rows::is_none(rows::xor(t, pivots)) {
+            return Verdict::Same;
+        }
+        pivots = t;
+        y = lookup::times(&tab, c, y);
+        trail::link(w, j + 1, j, 0);
+        if rows::parity(y, f) {
+            return Verdict::Differs {
+                row: j + 1,
+                first: rows::parity(g, y),
+            };
+        }
+        j += 1;
+    }
+    Verdict::Same
+}
 
 // From the row z of one letter on, in a lent basis.
 fn try_powers(
@@ -31,6 +90,11 @@ fn try_powers(
     let mut y = z;
     let mut k: usize = 1;
     while k + 1 < n {
+        if k == SHORT {
+            if table_pays(first, n, y) {
+                return try_tabled(first, second, m, g, e, w, y, p, k);
+            }
+        }
         let t = triangular::insert(e, p, y);
         if rows::is_none(rows::xor(t, p)) {
             return Verdict::Same;
@@ -48,9 +112,6 @@ fn try_powers(
     }
     Verdict::Same
 }
-
-// How many states of both records together are few.
-const FEW: usize = 8;
 
 // The same in a basis for few states: less is to be cleared.
 fn powers_few(first: &[u8], second: &[u8], m: Machine, g: Row, w: &mut Trail, z: Row) -> Verdict
