@@ -14,13 +14,13 @@ use lib.Bits.{bitAnd, bitXor, bitOr, and-le-l}
 use Rattle.automata.specs.Xor.{_⊕_}
 use Rattle.automata.specs.Mask.{bitOf}
 use Rattle.automata.proofs.Xor.{bool-cases, xor-cong, xor-none, eqb-same, eqb-differ}
-use Rattle.automata.proofs.Below.{up-to}
+use Rattle.automata.proofs.Below.{find, up-to}
 use Rattle.rows.specs.Product.{product}
 use Rattle.rows.proofs.BitLaws.{bit-xor, bit-and, bit-or, bit-none, bit-high, bit-pow, bit-ext}
 use Rattle.rows.proofs.ProductLaws.{bit-product}
 use Rattle.basis.specs.Basis.{cell, bits, written, Room}
 use Rattle.basis.proofs.BasisLaws.{written-length, written-same, written-block, written-row}
-use Rattle.elimination.specs.Place.{Folded, Unused, Added, BasisIn, Covered, Old, New}
+use Rattle.elimination.specs.Place.{Folded, Unused, Added, BasisIn, Covered, LeftOf, Old, New}
 use Rattle.elimination.specs.Echelon.{onto, rest, Echelon, Extended}
 use Rattle.elimination.proofs.EchelonLaws.{coordinates, coef-short, rest-below, room, echelon-add}
 
@@ -76,17 +76,17 @@ or-right : (a b : Bool) → a || b ≡ false → b ≡ false
 or-right true b e = absurd (true≢false e)
 or-right false b e = e
 
-module _ (σ n d p v y : ℕ) (t : List ℕ) (C : ℕ → ℕ → Bool) (F : BasisIn σ n d p C t) (hy : y < 2 ^ n)
-    (z : ℕ) (hz : z ≡ bitAnd y p) (e : ℕ) (he : (n : ℕ) → z < 2 ^ n → e ≡ product n z (cell σ t 0)) (left : ℕ) (hl : left ≡ bitXor y e) where
-  pub low : z < 2 ^ n
-  low = pivots-low n n y p hz hy (omega arith)
+-- What the calls give.
+pub left-of : (σ p y : ℕ) (t : List ℕ) (z e x : ℕ) → z ≡ bitAnd y p → ((n : ℕ) → z < 2 ^ n → e ≡ product n z (cell σ t 0)) → x ≡ bitXor y e → LeftOf σ p y t x
+left-of σ p y t z e x hz he hx n h = hx ∙ ap (bitXor y) (he n (pivots-low n n y p hz h (omega arith)) ∙ ap (λ u. product n u (cell σ t 0)) hz)
 
-  -- A product with the pivots that y has.
-  pub on-pivots : (l x : ℕ) → x ≡ product n z (cell σ t l) → (k : ℕ) → bitOf x k ≡ onto n (bitOf p) (bits σ t l) (bitOf y) k
-  on-pivots l x h k = ap (λ v. bitOf v k) h ∙ bit-product n z (cell σ t l) k ∙ xor-cong n (λ j g. ap (λ b. b && bits σ t l j k) (ap (λ v. bitOf v j) hz ∙ bit-and j y p))
+-- A product with the pivots that y has.
+pub on-pivots : (σ n p y : ℕ) (t : List ℕ) {z : ℕ} → z ≡ bitAnd y p → (l x : ℕ) → x ≡ product n z (cell σ t l) → (k : ℕ) → bitOf x k ≡ onto n (bitOf p) (bits σ t l) (bitOf y) k
+on-pivots σ n p y t {z} hz l x h k = ap (λ v. bitOf v k) h ∙ bit-product n z (cell σ t l) k ∙ xor-cong n (λ j g. ap (λ b. b && bits σ t l j k) (ap (λ v. bitOf v j) hz ∙ bit-and j y p))
 
+module _ (σ n d p v y : ℕ) (t : List ℕ) (C : ℕ → ℕ → Bool) (F : BasisIn σ n d p C t) (hy : y < 2 ^ n) (left : ℕ) (hl : LeftOf σ p y t left) where
   left-is : (k : ℕ) → bitOf left k ≡ rest n (bitOf p) (bits σ t 0) (bitOf y) k
-  left-is k = ap (λ v. bitOf v k) hl ∙ bit-xor k y e ∙ ap (λ b. bitOf y k ⊕ b) (on-pivots 0 e (he n low) k)
+  left-is k = ap (λ v. bitOf v k) (hl n hy) ∙ bit-xor k y (product n (bitAnd y p) (cell σ t 0)) ∙ ap (λ b. bitOf y k ⊕ b) (on-pivots σ n p y t refl 0 (product n (bitAnd y p) (cell σ t 0)) refl k)
 
   -- Nothing is left.
   pub place-old : (c : ℕ → Bool) → ((i : ℕ) → c i ≡ onto n (bitOf p) C (bitOf y) i) → left ≡ 0 → Old σ d p v y C C c t t d p v
@@ -151,12 +151,12 @@ module _ (σ n d p v y : ℕ) (t : List ℕ) (C : ℕ → ℕ → Bool) (F : Bas
         }
 
     -- The coefficients stand in block 2, changed before the row is added: u is the new row alone, own the rows that make its basis row.
-    pub place-kept : C ≡ bits σ t 2 → Covered σ d v t → n ≤ σ → Room σ t → (c : ℕ) → ((n : ℕ) → z < 2 ^ n → c ≡ product n z (cell σ t 2)) → (u : ℕ) → u ≡ 2 ^ d → (own : ℕ) → own ≡ bitXor c u
+    pub place-kept : C ≡ bits σ t 2 → Covered σ d v t → n ≤ σ → Room σ t → (c : ℕ) → ((i : ℕ) → bitOf c i ≡ onto n (bitOf p) (bits σ t 2) (bitOf y) i) → (u : ℕ) → u ≡ 2 ^ d → (own : ℕ) → own ≡ bitXor c u
         → (t₁ t₂ s : List ℕ) → Folded σ (λ j. (j < n) × (bitOf p j ≡ true)) 2 q own t t₁ → t₂ ≡ written σ t₁ 2 q own → Added σ n d p q left y t₂ s
         → New σ n d y (bits σ s 2) (bitOf u) t s (d + 1) (bitXor p (2 ^ q)) (bitOr v y)
     place-kept same cover w full c hc u hu own ho t₁ t₂ s F₁ h₂ A =
         place-new cover w t₂ s (ap length h₂ ∙ written-length σ t₁ 2 q own ∙ F₁ .size) (λ l i h g. ap (λ x. cell σ x l i) h₂ ∙ written-block σ t₁ 2 q own l i q-in g (omega arith) ∙ F₁ .other l i (omega arith) g) A (bitOf own)
-        (λ i. ap (λ x. bitOf x i) ho ∙ bit-xor i c u ∙ ap₂ _⊕_ (on-pivots 2 c (hc n low) i ∙ ap (λ K. onto n (bitOf p) K (bitOf y) i) (sym same)) (ap (λ x. bitOf x i) hu ∙ bit-pow d i))
+        (λ i. ap (λ x. bitOf x i) ho ∙ bit-xor i c u ∙ ap₂ _⊕_ (hc i ∙ ap (λ K. onto n (bitOf p) K (bitOf y) i) (sym same)) (ap (λ x. bitOf x i) hu ∙ bit-pow d i))
         (bits σ s 2)
         (λ j i h f g. ap (λ x. bitOf x i) (A .other 2 j (omega arith) (omega arith) ∙ ap (λ x. cell σ x 2 j) h₂ ∙ written-row σ t₁ 2 q own j (λ x. g (sym x))) ∙ F₁ .rows j (h, f) i ∙ ap (λ K. K j i ⊕ (bits σ t 0 j q && bitOf own i)) (sym same))
         (λ i. ap (λ x. bitOf x i) (A .other 2 q (omega arith) q-in ∙ ap (λ x. cell σ x 2 q) h₂ ∙ written-same σ t₁ 2 q own (omega (arith, F₁ .size)) (omega arith) q-in))
@@ -165,13 +165,25 @@ module _ (σ n d p v y : ℕ) (t : List ℕ) (C : ℕ → ℕ → Bool) (F : Bas
         q-in : q < σ
         q-in = omega (arith, pivot-below)
 
-  -- As many rows are found as a row has bits, so that nothing is left.
-  pub full-left : n ≤ d → left ≡ 0
-  full-left full = bit-ext left 0 (λ q. clear q (bool-cases (bitOf left q)) ∙ sym (bit-none q))
+  -- A bit that is left is one of the n.
+  none-left : ((q : ℕ) → q < n → bitOf left q ≡ true → ⊥) → left ≡ 0
+  none-left h = bit-ext left 0 (λ q. clear q (bool-cases (bitOf left q)) ∙ sym (bit-none q))
     where
       clear : (q : ℕ) → (bitOf left q ≡ true) ⊎ (bitOf left q ≡ false) → bitOf left q ≡ false
-      clear q (inl e) = absurd (omega (arith, both-below q e .1))
+      clear q (inl e) = absurd (h q (both-below q e .0) e)
       clear q (inr e) = e
+
+  -- Where something is left, it has one of them.
+  pub some-left : 0 < left → (q : ℕ) × (q < n) × (rest n (bitOf p) (bits σ t 0) (bitOf y) q ≡ true)
+  some-left h = go (find n (bitOf left))
+    where
+      go : ((q : ℕ) × (q < n) × (bitOf left q ≡ true)) ⊎ ((i : ℕ) → i < n → bitOf left i ≡ false) → (q : ℕ) × (q < n) × (rest n (bitOf p) (bits σ t 0) (bitOf y) q ≡ true)
+      go (inl (q, hq, e)) = (q, hq, set-at q e)
+      go (inr z) = absurd (omega (arith, h, none-left (λ q g e. true≢false (sym e ∙ z q g))))
+
+  -- As many rows are found as a row has bits, so that nothing is left.
+  pub full-left : n ≤ d → left ≡ 0
+  full-left full = none-left (λ q h e. omega (arith, both-below q e .1))
 
 -- Where no row found has bit q, no basis row has it.
 pub unused : (σ n d p v q : ℕ) (t : List ℕ) (C : ℕ → ℕ → Bool) → BasisIn σ n d p C t → Covered σ d v t → Unused σ n p v q t

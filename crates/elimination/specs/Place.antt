@@ -2,16 +2,19 @@
 -- found that make the basis row of the pivot j; it stands in block 2 where coefficients are kept. The stride of the table is σ.
 --   BasisIn σ n d p C t    t holds d rows found, of n bits, with the pivots p
 --   Covered σ d v t        v has every bit that one of the d rows found has
+--   LeftOf σ p y t x       x is what is left of y when the basis rows at its pivots are taken off
 --   Placed                 y is an xor of rows found (Old), or one more of them (New)
 use mathlib.Core.Path.{_≡_}
 use mathlib.Core.Bool.{Bool, true, false, _&&_}
 use mathlib.Core.List.{List}
 use mathlib.Core.Logic.{_⊎_}
-use Prim.Native.Nat.{ℕ, suc, _<_, _≤_}
+use Prim.Native.Nat.{ℕ, suc, _^_, _<_, _≤_}
 use lib.ListN.{length}
 use lib.Dec.{eqb}
+use lib.Bits.{bitAnd, bitXor}
 use Rattle.automata.specs.Xor.{_⊕_, comb}
 use Rattle.automata.specs.Mask.{bitOf}
+use Rattle.rows.specs.Product.{product}
 use Rattle.basis.specs.Basis.{cell, bits}
 use Rattle.elimination.specs.Echelon.{Echelon}
 
@@ -20,6 +23,10 @@ BasisIn σ n d p C t = Echelon n d (bitOf p) (bits σ t 1) (bits σ t 0) C
 
 abbrev pub Covered : ℕ → ℕ → ℕ → List ℕ → Type 0
 Covered σ d v t = (i k : ℕ) → i < d → bitOf v k ≡ false → bits σ t 1 i k ≡ false
+
+-- However many bits n it has.
+abbrev pub LeftOf : ℕ → ℕ → ℕ → List ℕ → ℕ → Type 0
+LeftOf σ p y t x = (n : ℕ) → y < 2 ^ n → x ≡ bitXor y (product n (bitAnd y p) (cell σ t 0))
 
 -- Where v lacks bit q, so do the basis rows.
 abbrev pub Unused : ℕ → ℕ → ℕ → ℕ → ℕ → List ℕ → Type 0

@@ -7,7 +7,7 @@ ghost use lib.Bits.{bitXor, bitOr};
 ghost use Rattle.automata.specs.Mask.{bitOf};
 ghost use Rattle.rows.specs.Row.{width, mask};
 ghost use Rattle.basis.specs.Basis.{parts, bits, Room};
-ghost use Rattle.elimination.specs.Place.{Folded, Unused, Added, BasisIn, Covered, Placed};
+ghost use Rattle.elimination.specs.Place.{Folded, Unused, Added, BasisIn, Covered, LeftOf, New, Placed};
 use rows::Row;
 
 // How many rows are found, their pivots, and a mask of every bit that one of them has.
@@ -66,20 +66,36 @@ fn add(b: &mut [u64], stride: usize, n: usize, s: Size, q: usize, x: Row, y: Row
     }
 }
 
+// What is left of y when the basis rows at its pivots are taken off.
+pub fn left_of(b: &[u64], stride: usize, s: Size, y: Row) -> Row
+    requires { ⌜ Room stride (now b) × (mask y < 2 ^ stride) ⌝ }
+    ensures { λ r. ⌜ LeftOf stride (mask (s .pivots)) (mask y) (now (b .entry)) (mask r) ⌝ }
+{
+    let p = s.pivots;
+    let z = rows::and(y, p);
+    let e = basis::times(b, stride, 0, z);
+    rows::xor(y, e)
+}
+
+// Row y, found next, of which x is left: it is one more of the rows found.
+pub fn extend(b: &mut [u64], stride: usize, n: usize, s: Size, x: Row, y: Row) -> Size
+    requires { ⌜ (n ≤ width) × (n ≤ stride) × Room stride (now b) × (mask y < 2 ^ n) × ((C : ℕ → ℕ → Bool) × BasisIn stride n (s .count) (mask (s .pivots)) C (now b)) × Covered stride (s .count) (mask (s .used)) (now b) × LeftOf stride (mask (s .pivots)) (mask y) (now b) (mask x) × (0 < mask x) ⌝ }
+    ensures { λ r. ⌜ ((C : ℕ → ℕ → Bool) → BasisIn stride n (s .count) (mask (s .pivots)) C (now (b .entry)) → (C′ : ℕ → ℕ → Bool) × (c : ℕ → Bool) × New stride n (s .count) (mask y) C′ c (now (b .entry)) (now (b .exit)) (r .count) (mask (r .pivots)) (mask (r .used))) ⌝ }
+{
+    let q = rows::lowest(x);
+    add(b, stride, n, s, q, x, y)
+}
+
 // Row y of n bits is an xor of the rows found, and nothing changes; or it is one more of them.
 pub fn insert(b: &mut [u64], stride: usize, n: usize, s: Size, y: Row) -> Size
     requires { ⌜ (n ≤ width) × (n ≤ stride) × Room stride (now b) × (mask y < 2 ^ n) × ((C : ℕ → ℕ → Bool) × BasisIn stride n (s .count) (mask (s .pivots)) C (now b)) × Covered stride (s .count) (mask (s .used)) (now b) ⌝ }
     ensures { λ r. ⌜ ((C : ℕ → ℕ → Bool) → BasisIn stride n (s .count) (mask (s .pivots)) C (now (b .entry)) → (C′ : ℕ → ℕ → Bool) × (c : ℕ → Bool) × Placed stride n (s .count) (mask (s .pivots)) (mask (s .used)) (mask y) C C′ c (now (b .entry)) (now (b .exit)) (r .count) (mask (r .pivots)) (mask (r .used))) ⌝ }
 {
-    let p = s.pivots;
-    let z = rows::and(y, p);
-    let e = basis::times(b, stride, 0, z);
-    let left = rows::xor(y, e);
+    let left = left_of(b, stride, s, y);
     if rows::is_none(left) {
         return s;
     }
-    let q = rows::lowest(left);
-    add(b, stride, n, s, q, left, y)
+    extend(b, stride, n, s, left, y)
 }
 
 // The rows found that make a row, and the rows found once it is placed.

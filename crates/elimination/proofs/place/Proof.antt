@@ -1,15 +1,15 @@
 -- `place`: where nothing is left y is an xor of the rows that its coefficients name; else the coefficients are changed, then the rows.
-use mathlib.Core.Path.{refl, sym, ap, _∙_}
+use mathlib.Core.Path.{_≡_, refl, sym, _∙_}
 use mathlib.Core.Logic.{inl, inr}
-use Prim.Native.Nat.{_<_}
+use Prim.Native.Nat.{ℕ, _<_}
 use native.Mathlib.Omega.{arith}
 use borrow.Author.Tests.{eqb-true, eqb-false}
-use lib.Bits.{bitXor}
 use Rattle.automata.specs.Mask.{bitOf}
 use Rattle.rows.specs.Row.{mask}
 use Rattle.basis.specs.Basis.{bits}
-use Rattle.rows.proofs.BitLaws.{bit-pow}
-use Rattle.elimination.proofs.PlaceLaws.{low, on-pivots, place-old, pivots-low, place-kept, both-below, unused, unused-after}
+use Rattle.elimination.specs.Place.{LeftOf}
+use Rattle.elimination.specs.Echelon.{onto}
+use Rattle.elimination.proofs.PlaceLaws.{left-of, on-pivots, place-old, pivots-low, place-kept, both-below, unused, unused-after}
 use borrow.Author.Needs.{needs}
 use Rattle.elimination.proofs.place.Statement.{statement}
 use Rattle.elimination.proofs.place.Tie as tie
@@ -32,21 +32,33 @@ is-none-requires c κs = search needs
 same-length : tie.Need-same-length
 same-length c = search needs
 
+-- What is left of the row.
+left : (c : tie.After-xor) → LeftOf (c .before .before .before .before .before .before .before .before .before .args .stride) (mask (c .before .before .before .before .before .before .before .before .before .args .s .pivots)) (mask (c .before .before .before .before .before .before .before .before .before .args .y)) (c .before .before .before .before .before .before .before .before .before .args .b .now) (mask (c .xor .result))
+left c =
+    let a = c .before .before .before .before .before .before .before .before .before .args in
+    let and = c .before .before .before .before .before .and in
+    let w = c .before .before .before .times-two in
+    left-of (a .stride) (mask (a .s .pivots)) (mask (a .y)) (a .b .now) (mask (and .result)) (mask (w .result .first)) (mask (c .xor .result)) (and .ensures) (λ n h. w .ensures n h .0) (c .xor .ensures)
+
+-- The coefficients of the basis rows that are taken off.
+named : (c : tie.After-xor) → (i : ℕ) → bitOf (mask (c .before .before .before .times-two .result .second)) i ≡ onto (c .before .before .before .before .before .before .before .before .before .args .n) (bitOf (mask (c .before .before .before .before .before .before .before .before .before .args .s .pivots))) (bits (c .before .before .before .before .before .before .before .before .before .args .stride) (c .before .before .before .before .before .before .before .before .before .args .b .now) 2) (bitOf (mask (c .before .before .before .before .before .before .before .before .before .args .y))) i
+named c =
+    let s = c .before .before .before .before .before .before .before .before .before in
+    let a = s .args in
+    let p = mask (a .s .pivots) in
+    let y = mask (a .y) in
+    let and = c .before .before .before .before .before .and in
+    let w = c .before .before .before .times-two in
+    on-pivots (a .stride) (a .n) p y (a .b .now) (and .ensures) 2 (mask (w .result .second)) (w .ensures (a .n) (pivots-low (a .n) (a .n) y p (and .ensures) (s .pre .3) (omega arith)) .1)
+
 returns : tie.Need-returns
 returns c =
     let s = c .before .before .before .before .before .before .before .before .before .before .before in
     let a = s .args in
-    let n = a .n in
-    let d = a .s .count in
-    let p = mask (a .s .pivots) in
-    let v = mask (a .s .used) in
-    let y = mask (a .y) in
     let t = a .b .now in
-    let z = mask (c .before .before .before .before .before .before .before .and .result) in
-    let w = c .before .before .before .before .before .times-two in
-    inl (place-old (a .stride) n d p v y t (bits (a .stride) t 2) (s .pre .4) (s .pre .3) z (c .before .before .before .before .before .before .before .and .ensures) (mask (w .result .first)) (λ n h. w .ensures n h .0) (mask (c .before .before .xor .result)) (c .before .before .xor .ensures) (bitOf (mask (w .result .second)))
-    (on-pivots (a .stride) n d p v y t (bits (a .stride) t 2) (s .pre .4) (s .pre .3) z (c .before .before .before .before .before .before .before .and .ensures) (mask (w .result .first)) (λ n h. w .ensures n h .0) (mask (c .before .before .xor .result)) (c .before .before .xor .ensures) 2 (mask (w .result .second)) (w .ensures n (low (a .stride) n d p v y t (bits (a .stride) t 2) (s .pre .4) (s .pre .3) z (c .before .before .before .before .before .before .before .and .ensures) (mask (w .result .first)) (λ n h. w .ensures n h .0) (mask (c .before .before .xor .result)) (c .before .before .xor .ensures)) .1))
-    (eqb-true (mask (c .before .before .xor .result)) 0 (sym (c .before .is-none .ensures) ∙ c .if1 .taken)))
+    let x = c .before .before in
+    inl (place-old (a .stride) (a .n) (a .s .count) (mask (a .s .pivots)) (mask (a .s .used)) (mask (a .y)) t (bits (a .stride) t 2) (s .pre .4) (s .pre .3) (mask (x .xor .result)) (left x) (bitOf (mask (x .before .before .before .times-two .result .second))) (named x)
+    (eqb-true (mask (x .xor .result)) 0 (sym (c .before .is-none .ensures) ∙ c .if1 .taken)))
 
 lowest-requires : tie.Need-lowest-requires
 lowest-requires c κs =
@@ -59,10 +71,8 @@ fits c =
     let s = c .before .before .before .before .before .before .before .before .before .before .before .before in
     let a = s .args in
     let t = a .b .now in
-    let and = c .before .before .before .before .before .before .before .before .and in
-    let w = c .before .before .before .before .before .before .times-two in
-    let xor = c .before .before .before .xor in
-    both-below (a .stride) (a .n) (a .s .count) (mask (a .s .pivots)) (mask (a .s .used)) (mask (a .y)) t (bits (a .stride) t 2) (s .pre .4) (s .pre .3) (mask (and .result)) (and .ensures) (mask (w .result .first)) (λ n h. w .ensures n h .0) (mask (xor .result)) (xor .ensures) (c .lowest .result) (c .lowest .ensures .1)
+    let x = c .before .before .before in
+    both-below (a .stride) (a .n) (a .s .count) (mask (a .s .pivots)) (mask (a .s .used)) (mask (a .y)) t (bits (a .stride) t 2) (s .pre .4) (s .pre .3) (mask (x .xor .result)) (left x) (c .lowest .result) (c .lowest .ensures .1)
 
 unit-requires : tie.Need-unit-requires
 unit-requires c κs = omega (arith, fits c, c .before .before .before .before .before .before .before .before .before .before .before .before .pre .0)
@@ -106,12 +116,11 @@ returns-2 c =
     let v = mask (a .s .used) in
     let y = mask (a .y) in
     let t = a .b .now in
-    let q = c .before .before .before .before .before .before .before .before .before .before .before .before .before .before .lowest .result in
-    let z = mask (c .before .before .before .before .before .before .before .before .before .before .before .before .before .before .before .before .before .before .before .before .before .before .and .result) in
-    let w = c .before .before .before .before .before .before .before .before .before .before .before .before .before .before .before .before .before .before .before .before .times-two in
+    let q = c .before .before .before .before .before .before .before .before .before .before .before .before .before .before .lowest in
+    let x = c .before .before .before .before .before .before .before .before .before .before .before .before .before .before .before .before .before in
     let A = c .before .before .add .ensures in
-    inr (rw (A .1, A .2, A .3) (place-kept (a .stride) n d p v y t (bits (a .stride) t 2) (s .pre .4) (s .pre .3) z (c .before .before .before .before .before .before .before .before .before .before .before .before .before .before .before .before .before .before .before .before .before .before .and .ensures) (mask (w .result .first)) (λ n h. w .ensures n h .0) (mask (c .before .before .before .before .before .before .before .before .before .before .before .before .before .before .before .before .before .xor .result)) (c .before .before .before .before .before .before .before .before .before .before .before .before .before .before .before .before .before .xor .ensures) q (c .before .before .before .before .before .before .before .before .before .before .before .before .before .before .lowest .ensures .1)
-    refl (s .pre .5) (s .pre .1) (s .pre .2) (mask (w .result .second)) (λ n h. w .ensures n h .1) (mask (c .before .before .before .before .before .before .before .before .before .before .before .before .before .unit .result)) (c .before .before .before .before .before .before .before .before .before .before .before .before .before .unit .ensures) (mask (c .before .before .before .before .before .before .before .before .before .before .before .before .xor2 .result)) (c .before .before .before .before .before .before .before .before .before .before .before .before .xor2 .ensures) (c .before .before .before .before .before .before .before .before .before .before .spread .last .0) (c .before .before .before .before .before .before .put .last .0) (c .before .before .add .last .0) (c .before .before .before .before .before .before .before .before .before .before .spread .ensures) (c .before .before .before .before .before .before .put .ensures) (A .0)))
+    inr (rw (A .1, A .2, A .3) (place-kept (a .stride) n d p v y t (bits (a .stride) t 2) (s .pre .4) (s .pre .3) (mask (x .xor .result)) (left x) (q .result) (q .ensures .1)
+    refl (s .pre .5) (s .pre .1) (s .pre .2) (mask (x .before .before .before .times-two .result .second)) (named x) (mask (c .before .before .before .before .before .before .before .before .before .before .before .before .before .unit .result)) (c .before .before .before .before .before .before .before .before .before .before .before .before .before .unit .ensures) (mask (c .before .before .before .before .before .before .before .before .before .before .before .before .xor2 .result)) (c .before .before .before .before .before .before .before .before .before .before .before .before .xor2 .ensures) (c .before .before .before .before .before .before .before .before .before .before .spread .last .0) (c .before .before .before .before .before .before .put .last .0) (c .before .before .add .last .0) (c .before .before .before .before .before .before .before .before .before .before .spread .ensures) (c .before .before .before .before .before .before .put .ensures) (A .0)))
 
 pub place-spec : {M : Type 1} → statement M
 place-spec =
