@@ -3,7 +3,7 @@ use mathlib.Core.Path.{_≡_, refl, sym, ap, ap₂, _∙_}
 use mathlib.Core.Bool.{Bool, true, false, _&&_, _||_, cond, and-false, true≢false}
 use mathlib.Core.List.{List}
 use mathlib.Core.Logic.{_⊎_, inl, inr}
-use Prim.Native.Nat.{ℕ, suc, _+_, _^_, _<_, _≤_}
+use Prim.Native.Nat.{ℕ, _+_, _^_, _<_, _≤_}
 use native.Mathlib.Nat.{lt-of-le-of-lt, lt-of-lt-of-le}
 use native.Mathlib.Numerals.{add-one}
 use native.Mathlib.Omega.{arith}
@@ -21,7 +21,7 @@ use Rattle.rows.proofs.ProductLaws.{bit-product}
 use Rattle.basis.specs.Basis.{cell, bits, written, Room}
 use Rattle.basis.proofs.BasisLaws.{written-length, written-same, written-block, written-row}
 use Rattle.elimination.specs.Place.{Folded, Unused, Added, BasisIn, Covered, LeftOf, Old, New}
-use Rattle.elimination.specs.Echelon.{onto, rest, Echelon, Extended}
+use Rattle.elimination.specs.Echelon.{onto, rest, Extended}
 use Rattle.elimination.proofs.EchelonLaws.{coordinates, coef-short, rest-below, room, echelon-add}
 
 -- ---- a row added

@@ -36,6 +36,58 @@ with-kept S k l v x i z = go (ℕ-discrete x l) (ℕ-discrete i k)
 pub with-new : (S : ℕ → ℕ → ℕ → Bool) (k l : ℕ) (v : ℕ → Bool) → withRow S k l v l k ≡ v
 with-new S k l v = if-same l (cond (eqb k k) v (S l k)) (S l k) ∙ if-same k v (S l k)
 
+-- ---- one more row
+
+-- R with y for row d, and the pivots and basis rows with the pivot q of what is left of y.
+abbrev pub rowsWith : ℕ → (ℕ → ℕ → Bool) → (ℕ → Bool) → ℕ → ℕ → Bool
+rowsWith d R y i = cond (eqb i d) y (R i)
+
+abbrev pub pivotsWith : (ℕ → Bool) → ℕ → ℕ → Bool
+pivotsWith P q j = P j ⊕ eqb j q
+
+abbrev pub baseWith : ℕ → (ℕ → Bool) → (ℕ → ℕ → Bool) → (ℕ → Bool) → ℕ → ℕ → ℕ → Bool
+baseWith n P E y q j k = cond (eqb j q) (rest n P E y k) (E j k ⊕ (E j q && rest n P E y k))
+
+-- The coefficients of the basis rows, and of the new row: itself alone.
+abbrev pub coefWith : ℕ → ℕ → (ℕ → Bool) → (ℕ → ℕ → Bool) → (ℕ → ℕ → Bool) → (ℕ → Bool) → ℕ → ℕ → ℕ → Bool
+coefWith n d P E C y q = coefOf E C (ownOf n d P C y) q
+
+abbrev pub alone : ℕ → ℕ → Bool
+alone d r = eqb r d
+
+pub old-row : (d : ℕ) (R : ℕ → ℕ → Bool) (y : ℕ → Bool) (r : ℕ) → r < d → rowsWith d R y r ≡ R r
+old-row d R y r h = if-other r d y (R r) (omega arith)
+
+pub new-row : (d : ℕ) (R : ℕ → ℕ → Bool) (y : ℕ → Bool) → rowsWith d R y d ≡ y
+new-row d R y = if-same d y (R d)
+
+-- The product y of row k by letter l, of which bit q is left, is one more row of the search.
+pub grown : (a : ℕ) (A : Automaton) (d k l : ℕ) (P : ℕ → Bool) (R E C : ℕ → ℕ → Bool) (from by : ℕ → ℕ) (S : ℕ → ℕ → ℕ → Bool) → k < d → l < a → Search a A d k l P R E C from by S
+    → (y : ℕ → Bool) → ((j : ℕ) → y j ≡ times A l (R k) j) → ((j : ℕ) → A .states ≤ j → y j ≡ false) → (q : ℕ) → rest (A .states) P E y q ≡ true
+    → (from′ by′ : ℕ → ℕ) → ((r : ℕ) → r < d → from′ r ≡ from r) → from′ d ≡ k → ((r : ℕ) → r < d → by′ r ≡ by r) → by′ d ≡ l
+    → Search a A (suc d) k (suc l) (pivotsWith P q) (rowsWith d R y) (baseWith (A .states) P E y q) (coefWith (A .states) d P E C y q) from′ by′ (withRow S k l (alone d))
+grown a A d k l P R E C from by S hk hl G y hy thin q t from′ by′ old-from new-from old-by new-by =
+    search-new a A d k l P R E C from by S G hk hl (withRow S k l (alone d)) (λ x i p h. with-kept S k l (alone d) x i) (pivotsWith P q) (rowsWith d R y) (baseWith n P E y q) (coefWith n d P E C y q) from′ by′
+    (echelon-add n d P R E C (G .basis) y q thin t (pivotsWith P q) (rowsWith d R y) (baseWith n P E y q) (coefWith n d P E C y q) extended)
+    (λ r h j. ap (λ w. w j) (old-row d R y r h)) (λ j. ap (λ w. w j) (new-row d R y) ∙ hy j) old-from new-from old-by new-by (λ r. ap (λ w. w r) (with-new S k l (alone d)))
+  where
+    n : ℕ
+    n = A .states
+
+    own : ℕ → Bool
+    own = ownOf n d P C y
+
+    extended : Extended n d P R E C y q (pivotsWith P q) (rowsWith d R y) (baseWith n P E y q) (coefWith n d P E C y q)
+    extended = record {
+      row-old = λ i j h. ap (λ w. w j) (old-row d R y i h);
+      row-new = λ j. ap (λ w. w j) (new-row d R y);
+      base-old = λ j i h p z. if-other j q (rest n P E y i) (E j i ⊕ (E j q && rest n P E y i)) z;
+      base-new = λ i. if-same q (rest n P E y i) (E q i ⊕ (E q q && rest n P E y i));
+      coef-old = λ j i h p z. if-other j q (own i) (C j i ⊕ (E j q && own i)) z;
+      coef-new = λ i. if-same q (own i) (C q i ⊕ (E q q && own i));
+      pivots = λ j. refl;
+    }
+
 -- ---- a whole search
 
 -- A whole search whose first d rows are these.
@@ -109,55 +161,21 @@ module _ (a : ℕ) (A : Automaton) (thin : (l i j : ℕ) → l < a → i < A .st
         nothing : (j : ℕ) → Dec (j < n) → rest n P E y j ≡ false
         nothing j (yes h) = z j h
         nothing j (no h) = ap₂ _⊕_ (y-thin j (omega arith)) (onto-thin n d P R E C (G .basis) y j (omega arith))
-    pair (inl (q, hq, t)) = shorter d (suc d) R R′ from by from′ by′ (omega arith) (λ r h j. ap (λ w. w j) (old-row r h)) old-from old-by
-        (rest-of (suc d) P′ R′ E′ C′ from′ by′ (withRow S k l u) (omega arith)
-        (search-new a A d k l P R E C from by S G hk hl (withRow S k l u) (λ x i p h. with-kept S k l u x i) P′ R′ E′ C′ from′ by′
-        (echelon-add n d P R E C (G .basis) y q y-thin t P′ R′ E′ C′ extended)
-        (λ r h j. ap (λ w. w j) (old-row r h)) (λ j. ap (λ w. w j) (if-same d y (R d))) old-from (if-same d k (from d)) old-by (if-same d l (by d)) (λ r. ap (λ w. w r) (with-new S k l u))))
+    pair (inl (q, hq, t)) = shorter d (suc d) R (rowsWith d R y) from by from′ by′ (omega arith) (λ r h j. ap (λ w. w j) (old-row d R y r h)) old-from old-by
+        (rest-of (suc d) (pivotsWith P q) (rowsWith d R y) (baseWith n P E y q) (coefWith n d P E C y q) from′ by′ (withRow S k l (alone d)) (omega arith)
+        (grown a A d k l P R E C from by S hk hl G y (λ j. refl) y-thin q t from′ by′ old-from (if-same d k (from d)) old-by (if-same d l (by d))))
       where
-        own : ℕ → Bool
-        own = ownOf n d P C y
-
-        u : ℕ → Bool
-        u r = eqb r d
-
-        P′ : ℕ → Bool
-        P′ j = P j ⊕ eqb j q
-
-        R′ : ℕ → ℕ → Bool
-        R′ i = cond (eqb i d) y (R i)
-
-        E′ : ℕ → ℕ → Bool
-        E′ j k = cond (eqb j q) (rest n P E y k) (E j k ⊕ (E j q && rest n P E y k))
-
-        C′ : ℕ → ℕ → Bool
-        C′ = coefOf E C own q
-
         from′ : ℕ → ℕ
         from′ r = cond (eqb r d) k (from r)
 
         by′ : ℕ → ℕ
         by′ r = cond (eqb r d) l (by r)
 
-        old-row : (r : ℕ) → r < d → R′ r ≡ R r
-        old-row r h = if-other r d y (R r) (omega arith)
-
         old-from : (r : ℕ) → r < d → from′ r ≡ from r
         old-from r h = if-other r d k (from r) (omega arith)
 
         old-by : (r : ℕ) → r < d → by′ r ≡ by r
         old-by r h = if-other r d l (by r) (omega arith)
-
-        extended : Extended n d P R E C y q P′ R′ E′ C′
-        extended = record {
-          row-old = λ i j h. ap (λ w. w j) (old-row i h);
-          row-new = λ j. ap (λ w. w j) (if-same d y (R d));
-          base-old = λ j i h p z. if-other j q (rest n P E y i) (E j i ⊕ (E j q && rest n P E y i)) z;
-          base-new = λ i. if-same q (rest n P E y i) (E q i ⊕ (E q q && rest n P E y i));
-          coef-old = λ j i h p z. if-other j q (own i) (C j i ⊕ (E j q && own i)) z;
-          coef-new = λ i. if-same q (own i) (C q i ⊕ (E q q && own i));
-          pivots = λ j. refl;
-        }
 
   -- The g letters to come of row k, and what follows them.
   letters : (g d k l : ℕ) (P : ℕ → Bool) (R E C : ℕ → ℕ → Bool) (from by : ℕ → ℕ) (S : ℕ → ℕ → ℕ → Bool) → l + g ≡ a → k < d → Search a A d k l P R E C from by S

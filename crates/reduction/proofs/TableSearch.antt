@@ -19,16 +19,16 @@ use Rattle.rows.specs.Row.{width}
 use Rattle.rows.specs.Table.{blocks, size, at, row, stored}
 use Rattle.rows.specs.Product.{product}
 use Rattle.rows.specs.Machine.{autoBy, auto, Bounded}
-use Rattle.rows.proofs.BitLaws.{bit-xor, bit-none, bit-pow, bits-lt}
+use Rattle.rows.proofs.BitLaws.{bit-xor, bit-none, bits-lt}
 use Rattle.rows.proofs.ProductLaws.{bit-product, product-lt}
 use Rattle.rows.proofs.TableLaws.{length-stored, stored-same, stored-other}
 use Rattle.basis.specs.Basis.{basisSize, cell, bits}
 use Rattle.lookup.specs.Lookup.{chosen}
 use Rattle.lookup.proofs.LookupLaws.{product-width, chosen-product}
 use Rattle.elimination.specs.Echelon.{onto}
-use Rattle.elimination.specs.Place.{BasisIn, Covered, Old, New, Placed}
+use Rattle.elimination.specs.Place.{BasisIn, Covered, LeftOf, Old, New, Placed}
 use Rattle.elimination.proofs.EchelonLaws.{no-echelon, gt-differ}
-use Rattle.elimination.proofs.PlaceLaws.{if-same, if-other, pivots-low, on-pivots, place-old, full-left}
+use Rattle.elimination.proofs.PlaceLaws.{if-same, if-other, pivots-low, left-of, on-pivots, place-old, full-left}
 use Rattle.reduction.specs.Tables.{SearchIn, Searching, Coefficients, accepted, Reduces, Column}
 use Rattle.reduction.proofs.SearchLaws.{search-none, search-first, search-next, search-old, search-new, search-tree}
 
@@ -149,7 +149,7 @@ pub searching-full : (a : ℕ) (t : List ℕ) (n i f : ℕ) → Bounded a t n i 
     → (y : ℕ) → y ≡ product n (cell width b 1 k) (at t l) → (g : ℕ) (tab : List ℕ) → Coefficients g p b tab → (c : ℕ) → c ≡ product (g * 4) y (chosen p (cell width b 2)) → (s′ : List ℕ) → s′ ≡ stored s l k c
     → Searching a t n i f b s′ d k (l + 1) p v
 searching-full a t n i f ok b s d k l p v G hk hl full y hy g tab K c hc s′ e =
-    searching-step a t n i f ok b s d k l p v G hk hl y hy c d p v b s′ (inl (place-old width n d p v y b (bits width b 2) F low z refl (product n z (cell width b 0)) eliminated left refl (bitOf c) named none)) e
+    searching-step a t n i f ok b s d k l p v G hk hl y hy c d p v b s′ (inl (place-old width n d p v y b (bits width b 2) F low left left-is (bitOf c) named none)) e
   where
     F : BasisIn width n d p (bits width b 2) b
     F = G .search .basis
@@ -163,17 +163,17 @@ searching-full a t n i f ok b s d k l p v G hk hl full y hy g tab K c hc s′ e 
     z-low : z < 2 ^ n
     z-low = pivots-low n n y p refl low (omega arith)
 
-    eliminated : (m : ℕ) → z < 2 ^ m → product n z (cell width b 0) ≡ product m z (cell width b 0)
-    eliminated m = product-width n m z (cell width b 0) z-low
-
     left : ℕ
     left = bitXor y (product n z (cell width b 0))
 
+    left-is : LeftOf width p y b left
+    left-is = left-of width p y b z (product n z (cell width b 0)) left refl (λ m. product-width n m z (cell width b 0) z-low) refl
+
     none : left ≡ 0
-    none = full-left width n d p v y b (bits width b 2) F low z refl (product n z (cell width b 0)) eliminated left refl (omega arith)
+    none = full-left width n d p v y b (bits width b 2) F low left left-is (omega arith)
 
     named : (r : ℕ) → bitOf c r ≡ onto n (bitOf p) (bits width b 2) (bitOf y) r
-    named = on-pivots width n d p v y b (bits width b 2) F low z refl (product n z (cell width b 0)) eliminated left refl 2 c (hc ∙ chosen-product (g * 4) p y (cell width b 2) (K .all) n z-low)
+    named = on-pivots width n p y b refl 2 c (hc ∙ chosen-product (g * 4) p y (cell width b 2) (K .all) n z-low)
 
 pub searching-next : (a : ℕ) (t : List ℕ) (n i f : ℕ) (b s : List ℕ) (d k p v : ℕ) → Searching a t n i f b s d k a p v → Searching a t n i f b s d (k + 1) 0 p v
 searching-next a t n i f b s d k p v G = record {

@@ -1,6 +1,6 @@
 -- `expand_letters`: the letters below l are done; row k stays, so that the line keeps its products.
-use mathlib.Core.Path.{_≡_, refl, sym, ap, subst, _∙_}
-use Prim.Native.Nat.{_-_, _^_, _≤_, _<_}
+use mathlib.Core.Path.{_≡_, refl, sym, ap, _∙_}
+use Prim.Native.Nat.{_-_, _≤_, _<_}
 use native.Mathlib.Omega.{arith}
 use Rattle.rows.specs.Row.{width, mask}
 use Rattle.rows.specs.Table.{at}

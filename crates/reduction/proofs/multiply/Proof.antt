@@ -2,7 +2,6 @@
 use mathlib.Core.Path.{sym, subst}
 use Prim.Native.Nat.{_^_, _<_}
 use native.Mathlib.Omega.{arith}
-use Rattle.rows.specs.Row.{width}
 use Rattle.rows.specs.Table.{at}
 use Rattle.kernels.specs.Products.{Products}
 use Rattle.reduction.proofs.multiply.Statement.{statement}

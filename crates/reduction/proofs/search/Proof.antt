@@ -1,6 +1,6 @@
 -- `search`: the rows below k are done by every letter; the rest may be looked up.
 use mathlib.Core.Path.{_≡_}
-use Prim.Native.Nat.{_-_, _*_, _≤_, _<_}
+use Prim.Native.Nat.{_-_, _*_, _≤_}
 use native.Mathlib.Nat.{mul-le-mul}
 use native.Mathlib.Omega.{arith}
 use Rattle.rows.specs.Row.{width, mask}

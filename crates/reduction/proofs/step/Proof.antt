@@ -1,5 +1,5 @@
 -- `step`: the product is as short as the rows of the matrix; placed, its coordinates go to the table.
-use mathlib.Core.Path.{_≡_, sym, subst}
+use mathlib.Core.Path.{sym, subst}
 use Prim.Native.Nat.{_^_, _<_}
 use native.Mathlib.Omega.{arith}
 use Rattle.automata.specs.Mask.{bitOf}
