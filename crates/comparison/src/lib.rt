@@ -56,13 +56,12 @@ fn first_row(
     ensures { λ r. ⌜ JudgedOf (now (first .entry)) (now (second .entry)) (now (w .exit)) r ⌝ }
 {
     let found = search::first_accepted(first, second, m, b, stride, w);
-    let Hunt::Found(r) = found else {
+    let Hunt::Found { number, row } = found else {
         return Verdict::Same;
     };
-    let x = basis::get(b, stride, 1, r);
     Verdict::Differs {
-        row: r,
-        first: rows::parity(g, x),
+        row: number,
+        first: rows::parity(g, row),
     }
 }
 

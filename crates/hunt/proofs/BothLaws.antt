@@ -1,8 +1,8 @@
 -- Two records side by side: their sizes are within bounds, and they have the bits of the direct sum.
-use mathlib.Core.Path.{_≡_, sym, _∙_}
+use mathlib.Core.Path.{_≡_}
 use mathlib.Core.Bool.{false}
 use mathlib.Core.List.{List}
-use Prim.Native.Nat.{ℕ, _+_, _*_, _^_, _<_, _≤_}
+use Prim.Native.Nat.{ℕ, _^_, _<_, _≤_}
 use native.Mathlib.Omega.{arith}
 use Rattle.automata.specs.Mask.{bitOf}
 use Rattle.automata.specs.Minimal.{SameBits}
@@ -17,7 +17,7 @@ use Rattle.record.specs.Bytes.{number}
 use Rattle.record.specs.Record.{rowBytes, initialAt, finalAt, statesOf, lettersOf, rowAt, WellFormed, automatonOf}
 use Rattle.record.proofs.Refusals.{good-check}
 use Rattle.record.proofs.Encode.{row-below}
-use Rattle.hunt.specs.Both.{besideOf, pairOf, Paired}
+use Rattle.hunt.specs.Both.{besideOf, Paired}
 
 -- I and F of a well-formed record have no bit at its number of states or above.
 pub field-below : (bs : List ℕ) → WellFormed bs → (number rowBytes bs initialAt < 2 ^ statesOf bs) × (number rowBytes bs finalAt < 2 ^ statesOf bs)

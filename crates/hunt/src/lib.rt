@@ -11,10 +11,11 @@ use rows::Machine;
 use rows::Row;
 use trail::Trail;
 
-// What the search for an accepted row has come to: the rows found so far, none of them accepted, or the first accepted row.
+// What the search for an accepted row has come to: the rows found so far, none of them accepted, or the first accepted row, by its number,
+// and the row itself.
 pub enum Hunt {
     Going(Size),
-    Found(usize),
+    Found { number: usize, row: Row },
 }
 
 // Row k by letter l, whose product is y; a new row that the final column accepts ends the search.
@@ -39,15 +40,16 @@ pub fn try_pair(
     }
     let d = s.count;
     let f = m.finals;
-    let next = elimination::insert(b, stride, m.states, s, y);
-    if next.count <= d {
-        return Hunt::Going(next);
+    let left = elimination::left_of(b, stride, s, y);
+    if rows::is_none(left) {
+        return Hunt::Going(s);
     }
     trail::link(w, d, k, l);
+    // The search ends here, so that the row is not added to the basis.
     if rows::parity(y, f) {
-        return Hunt::Found(d);
+        return Hunt::Found { number: d, row: y };
     }
-    Hunt::Going(next)
+    Hunt::Going(elimination::extend(b, stride, m.states, s, left, y))
 }
 
 // The initial row is the first row found, unless it has no bits.

@@ -1,41 +1,27 @@
 -- Rows passed over: a table of the basis keeps each of their products, which is then an xor of rows found.
 use mathlib.Core.Path.{_≡_, refl, sym, ap, subst, _∙_}
-use mathlib.Core.Bool.{Bool}
 use mathlib.Core.List.{List}
-use mathlib.Core.Logic.{inl}
 use Prim.Native.Nat.{ℕ, zero, suc, _+_, _*_, _^_, _<_, _≤_}
 use native.Mathlib.Numerals.{add-one}
 use native.Mathlib.Omega.{arith}
 use lib.Bits.{bitAnd, bitXor, xor-self}
-use Rattle.automata.specs.Mask.{bitOf}
-use Rattle.rows.specs.Row.{width}
 use Rattle.rows.specs.Product.{product}
 use Rattle.rows.proofs.ProductLaws.{product-lt}
 use Rattle.basis.specs.Basis.{cell}
 use Rattle.lookup.specs.Lookup.{chosen, Kept}
 use Rattle.lookup.proofs.LookupLaws.{chosen-product}
-use Rattle.elimination.specs.Echelon.{onto}
-use Rattle.elimination.specs.Place.{BasisIn, Placed}
-use Rattle.elimination.proofs.PlaceLaws.{place-old}
+use Rattle.elimination.proofs.PlaceLaws.{left-of}
 use Rattle.hunt.specs.Hunt.{Hunting}
-use Rattle.hunt.proofs.HuntLaws.{hunting-old, hunting-next}
-
--- y is placed, whatever coefficients make the basis, and nothing changes.
-abbrev Known : ℕ → ℕ → ℕ → ℕ → ℕ → List ℕ → ℕ → Type 0
-Known σ n d p v b y = (C : ℕ → ℕ → Bool) → BasisIn σ n d p C b → (C′ : ℕ → ℕ → Bool) × (c : ℕ → Bool) × Placed σ n d p v y C C′ c b b d p v
+use Rattle.hunt.proofs.HuntLaws.{Known, left-known, hunting-old, hunting-next}
 
 -- The table has g fours of rows: those of the basis at its pivots p.
 kept-known : (σ n d p v g y : ℕ) (b : List ℕ) → p < 2 ^ (g * 4) → y < 2 ^ n → Kept g (chosen p (cell σ b 0)) y → Known σ n d p v b y
-kept-known σ n d p v g y b hp low e C F = (
-  C,
-  onto n (bitOf p) C (bitOf y),
-  inl (place-old σ n d p v y b C F low (bitAnd y p) refl x (chosen-product (g * 4) p y (cell σ b 0) hp) (bitXor y x) refl (onto n (bitOf p) C (bitOf y)) (λ j. refl) (ap (bitXor y) (sym e) ∙ xor-self y)),
-)
+kept-known σ n d p v g y b hp low e = left-known σ n d p v b y low (bitXor y x) (left-of σ p y b (bitAnd y p) x (bitXor y x) refl (chosen-product (g * 4) p y (cell σ b 0) hp) refl) (ap (bitXor y) (sym e) ∙ xor-self y)
   where
     x : ℕ
     x = product (g * 4) y (chosen p (cell σ b 0))
 
-module _ (σ a : ℕ) (M : ℕ → ℕ → ℕ) (n i f : ℕ) (hn : n ≤ width) (rows : (l j : ℕ) → l < a → j < n → M l j < 2 ^ n) (b w : List ℕ) (d p v : ℕ) where
+module _ (σ a : ℕ) (M : ℕ → ℕ → ℕ) (n i f : ℕ) (rows : (l j : ℕ) → l < a → j < n → M l j < 2 ^ n) (b w : List ℕ) (d p v : ℕ) where
   short : (k l : ℕ) → l < a → product n (cell σ b 1 k) (M l) < 2 ^ n
   short k l h = product-lt n n (cell σ b 1 k) (M l) (λ j. rows l j h)
 
@@ -44,7 +30,7 @@ module _ (σ a : ℕ) (M : ℕ → ℕ → ℕ) (n i f : ℕ) (hn : n ≤ width)
   letters-known k hk H e zero h = H
   letters-known k hk H e (suc l) h =
       subst (λ z. Hunting σ a M n i f b w d k z p v) (add-one l)
-      (hunting-old σ a M n i f hn b w d k l p v (letters-known k hk H e l (omega arith)) hk (omega arith) (product n (cell σ b 1 k) (M l)) refl b d p v (e l (omega arith)) (omega arith) .0)
+      (hunting-old σ a M n i f b w d k l p v (letters-known k hk H e l (omega arith)) hk (omega arith) (product n (cell σ b 1 k) (M l)) refl (e l (omega arith)))
 
   row-known : (k : ℕ) → k < d → ((l : ℕ) → l < a → Known σ n d p v b (product n (cell σ b 1 k) (M l))) → Hunting σ a M n i f b w d k 0 p v → Hunting σ a M n i f b w d (k + 1) 0 p v
   row-known k hk e H = hunting-next σ a M n i f b w d k p v (letters-known k hk H e a (omega arith))

@@ -26,9 +26,9 @@ found-below σ a M n i f b w d k l p v x H h e = subst (λ y. y < 2 ^ n) (sym e)
 -- After the last letter the next row follows.
 pub hunted-next : (σ a : ℕ) (M : ℕ → ℕ → ℕ) (n i f : ℕ) (b w : List ℕ) (d₀ d k : ℕ) (r : Hunt) → d₀ ≤ d → Hunted σ a M n i f b w d k a r → Hunted σ a M n i f b w d₀ (k + 1) 0 r
 hunted-next σ a M n i f b w d₀ d k (Going s) h (H, g) = (hunting-next σ a M n i f b w (s .count) k (mask (s .pivots)) (mask (s .used)) H, omega arith)
-hunted-next σ a M n i f b w d₀ d k (Found r) h H = H
+hunted-next σ a M n i f b w d₀ d k (Found r x) h H = H
 
 -- Fewer rows to start from say less.
 pub hunted-from : (σ a : ℕ) (M : ℕ → ℕ → ℕ) (n i f : ℕ) (b w : List ℕ) (d₀ d k l : ℕ) (r : Hunt) → d₀ ≤ d → Hunted σ a M n i f b w d k l r → Hunted σ a M n i f b w d₀ k l r
 hunted-from σ a M n i f b w d₀ d k l (Going s) h (H, g) = (H, omega arith)
-hunted-from σ a M n i f b w d₀ d k l (Found r) h H = H
+hunted-from σ a M n i f b w d₀ d k l (Found r x) h H = H

@@ -1,5 +1,4 @@
 -- `search_many`: two records have no more states together than a row has bits.
-use native.Mathlib.Omega.{arith}
 use denote.Ref.{now}
 use Rattle.hunt.proofs.BothLaws.{paired-sizes}
 use borrow.Author.Needs.{needs}

@@ -12,7 +12,7 @@ use Rattle.lookup.specs.Lookup.{chosen}
 use Rattle.reduction.proofs.TableSearch.{count-bound}
 use Rattle.hunt.specs.Both.{besideOf}
 use Rattle.hunt.specs.Hunt.{HuntingIn}
-use Rattle.hunt.proofs.BothLaws.{paired-sizes, paired-rows}
+use Rattle.hunt.proofs.BothLaws.{paired-rows}
 use Rattle.search.proofs.TryLaws.{found-below}
 use Rattle.search.proofs.PassLaws.{row-kept}
 use Rattle.search.proofs.pass_rows.Statement.{statement}
@@ -68,7 +68,7 @@ loop-again c =
     let t = c .before .before .before .before .before .before .before .fill .ensures in
     let x = c .before .before .before .get in
     let h = c .before .before .before .before .if1 .taken in
-    (omega arith, omega (arith, h), λ w H. row-kept (a .stride) (m .letters) (besideOf bs cs) (m .states) (mask (m .initial)) (mask (m .finals)) (paired-sizes bs cs m (s .pre .0) .1) (paired-rows bs cs m (s .pre .0)) (now (a .b)) w (a .s .count) (mask (a .s .pivots)) (mask (a .s .used)) (c .before .before .before .before .before .before .before .fill .result) (t .1) (v .j) (mask (x .result)) h (x .ensures) (c .before .are-kept .ensures (sym (not-not (c .before .are-kept .result)) ∙ ap not (c .if2 .left)) (chosen (mask (a .s .pivots)) (cell (a .stride) (now (a .b)) 0)) (t .2)) (v .inv .2 w H))
+    (omega arith, omega (arith, h), λ w H. row-kept (a .stride) (m .letters) (besideOf bs cs) (m .states) (mask (m .initial)) (mask (m .finals)) (paired-rows bs cs m (s .pre .0)) (now (a .b)) w (a .s .count) (mask (a .s .pivots)) (mask (a .s .used)) (c .before .before .before .before .before .before .before .fill .result) (t .1) (v .j) (mask (x .result)) h (x .ensures) (c .before .are-kept .ensures (sym (not-not (c .before .are-kept .result)) ∙ ap not (c .if2 .left)) (chosen (mask (a .s .pivots)) (cell (a .stride) (now (a .b)) 0)) (t .2)) (v .inv .2 w H))
 
 returns-2 : tie.Need-returns-2 Inv-loop μ-loop
 returns-2 c = let v = c .before .before .loop in (v .inv .2, v .inv .0, v .inv .1)
