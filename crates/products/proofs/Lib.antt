@@ -1,4 +1,3 @@
 -- Laws that belong to no one function.
-pub mod LoopLaws
 pub mod PairLaws
 pub mod LineLaws

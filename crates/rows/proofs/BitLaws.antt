@@ -12,6 +12,7 @@ use lib.Pow.{pow-pos, shr-shr, shl-shr, pow-mono, shl-exact}
 use lib.Bits.{differ, bitXor, bitAnd, xor-step, and-step, or-step, shifted-half, shifted-even, and-mask, bitOr, or-add-and, and-le-l, and-le-r}
 use Rattle.automata.specs.Xor.{_⊕_}
 use Rattle.automata.specs.Mask.{bitOf}
+use Rattle.automata.proofs.Xor.{xor-zero}
 use Rattle.automata.proofs.Mask.{bit-zero, bit-suc, bits-same}
 
 mod-two : (m : ℕ) → m % 2 < 2
@@ -176,3 +177,7 @@ pub bit-shl-low : (x k j : ℕ) → j < k → bitOf (x * 2 ^ k) j ≡ false
 bit-shl-low x zero j l = absurd (not-suc-le-zero l)
 bit-shl-low x (suc k) zero l = bit-zero (x * 2 ^ suc k) ∙ ap (λ d. eqb d 1) (shifted-even x k)
 bit-shl-low x (suc k) (suc j) l = bit-suc (x * 2 ^ suc k) j ∙ ap (λ y. bitOf y j) (shifted-half x k) ∙ bit-shl-low x k j (omega arith)
+
+-- Numbers whose xor has no bit are the same.
+pub same-row : (x y : ℕ) → bitXor x y ≡ 0 → x ≡ y
+same-row x y z = bit-ext x y (λ j. xor-zero (sym (bit-xor j x y) ∙ ap (λ v. bitOf v j) z ∙ bit-none j))

@@ -1,5 +1,7 @@
 pub mod BitLaws
 pub mod LowestBit
+pub mod Ones
+pub mod LoopLaws
 pub mod ParityLaws
 pub mod TableLaws
 pub mod ProductLaws

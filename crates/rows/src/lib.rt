@@ -57,6 +57,20 @@ pub fn unit(j: usize) -> Row
     Row { bits: 1 << j }
 }
 
+// The row with every bit below n.
+pub fn below(n: usize) -> Row
+    requires { ⌜ n ≤ width ⌝ }
+    ensures { λ r. ⌜ (mask r < 2 ^ n) × ((i : ℕ) → i < n → bitOf (mask r) i ≡ true) ⌝ }
+{
+    if n < 64 {
+        Row { bits: (1 << n) - 1 }
+    } else {
+        Row {
+            bits: 0xFFFFFFFFFFFFFFFF,
+        }
+    }
+}
+
 // The bits of just one of x and y.
 pub fn xor(x: Row, y: Row) -> Row
     ensures { λ r. ⌜ mask r ≡ bitXor (mask x) (mask y) ⌝ }

@@ -6,7 +6,7 @@ use Rattle.rows.specs.Row.{mask}
 use Rattle.rows.proofs.ProductLaws.{Left, left-start, left-lowest, left-end}
 use Rattle.record.specs.Record.{statesOf, rowAt}
 use Rattle.record.proofs.Refusals.{good-check}
-use Rattle.products.proofs.LoopLaws.{some-bit, no-bit, cleared-less, bit-state}
+use Rattle.rows.proofs.LoopLaws.{some-bit, no-bit, cleared-less, bit-state}
 use Rattle.products.proofs.times_three.Statement.{statement}
 use Rattle.products.proofs.times_three.Tie as tie
 
