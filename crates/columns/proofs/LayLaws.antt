@@ -21,6 +21,7 @@ use Rattle.transpose.proofs.BlockLaws.{padded-low, padded-high, padded-thin}
 use Rattle.observation.specs.Listed.{rank, pick}
 use Rattle.columns.specs.Columns.{Columns}
 use Rattle.columns.specs.Laid.{Laid}
+use Rattle.observation.proofs.Rising.{over}
 use Rattle.observation.proofs.ListedLaws.{rank-step-pivot, rank-step-other, rank-le, pick-old, pick-new, listed}
 
 -- ---- row by row
@@ -38,12 +39,16 @@ laid-old : (k p r : ℕ) (b c : List ℕ) → Laid k p b r c → (j : ℕ) → j
 laid-old k p r b c L j h = L .rows j h ∙ ap (cell width b 0) (sym (pick-old (bitOf p) k j (subst (λ x. j < x) (L .count) h)))
 
 -- k is no pivot.
-pub laid-other : (k p r q : ℕ) (b c d : List ℕ) → bitOf p k ≡ false → q ≡ r → d ≡ c → Laid k p b r c → Laid (k + 1) p b q d
-laid-other k p r q b c d e hq hd L = rw (hq, hd) (record {
+pub laid-other : (k p r : ℕ) (b c : List ℕ) → bitOf p k ≡ false → Laid k p b r c → Laid (k + 1) p b r c
+laid-other k p r b c e L = record {
   count = L .count ∙ sym (rank-step-other (bitOf p) k e);
   rows = laid-old k p r b c L;
   size = L .size;
-})
+}
+
+-- From k on to q there is none.
+pub laid-over : (k q p r : ℕ) (b c : List ℕ) → k ≤ q → ((i : ℕ) → k ≤ i → i < q → bitOf p i ≡ false) → Laid k p b r c → Laid q p b r c
+laid-over k q p r b c h none L = over {P = bitOf p} {Q = λ i. Laid i p b r c} (λ i e. laid-other i p r b c e) k q h none L
 
 -- k is a pivot, and x its basis row.
 pub laid-pivot : (k p r q x : ℕ) (b c d : List ℕ) → k < width → bitOf p k ≡ true → x ≡ cell width b 0 k → q ≡ r + 1 → d ≡ stored c 0 r x → Laid k p b r c → Laid (k + 1) p b q d

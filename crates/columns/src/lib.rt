@@ -22,15 +22,14 @@ fn lay(b: &Basis, p: Row, n: usize, c: &mut Table) -> usize
     requires { ⌜ (n ≤ width) × (length (now c) ≡ size) ⌝ }
     ensures { λ r. ⌜ Laid n (mask p) (now (b .entry)) r (now (c .exit)) ⌝ }
 {
+    let mut z = rows::and(p, rows::below(n));
     let mut r: usize = 0;
-    let mut k: usize = 0;
-    while k < n {
-        if rows::has(p, k) {
-            let x = basis::get(b, WIDEST, 0, k);
-            rows::store(c, 0, r, x);
-            r += 1;
-        }
-        k += 1;
+    while !rows::is_none(z) {
+        let k = rows::lowest(z);
+        let x = basis::get(b, WIDEST, 0, k);
+        rows::store(c, 0, r, x);
+        r += 1;
+        z = rows::clear_lowest(z);
     }
     r
 }

@@ -1,47 +1,25 @@
 -- The rows of a block folded, one after another, and the blocks of a table.
-use mathlib.Core.Path.{_≡_, refl, sym, ap, ap₂, subst, _∙_}
-use mathlib.Core.Bool.{Bool, true, false}
+use mathlib.Core.Path.{_≡_, refl, sym, ap, subst, _∙_}
+use mathlib.Core.Bool.{true, false}
 use mathlib.Core.List.{List}
-use Prim.Native.Nat.{ℕ, suc, _+_, _*_, _^_, _<_, _≤_}
+use Prim.Native.Nat.{ℕ, suc, _+_, _*_, _<_, _≤_}
 use native.Mathlib.Nat.{not-suc-le-zero}
 use native.Mathlib.Numerals.{add-one}
 use native.Mathlib.Omega.{arith}
 use lib.ListN.{length}
-use lib.Dec.{eqb}
-use lib.Bits.{bitXor}
-use Rattle.automata.specs.Xor.{_⊕_}
 use Rattle.automata.specs.Mask.{bitOf}
-use Rattle.automata.proofs.Xor.{eqb-same, eqb-differ}
 use Rattle.automata.proofs.Below.{up-to}
 use Rattle.rows.specs.Row.{width}
 use Rattle.rows.specs.Table.{blocks, size, at, stored}
 use Rattle.rows.specs.Product.{product}
-use Rattle.rows.proofs.BitLaws.{bit-none, bit-xor, bit-pow}
 use Rattle.rows.proofs.TableLaws.{stored-same, stored-row}
 use Rattle.lookup.specs.Lookup.{Tabled}
 use Rattle.transpose.specs.Exchange.{OnlyBlock}
 use Rattle.transpose.proofs.BlockLaws.{only-start, only-stored}
 use Rattle.observation.specs.Listed.{rank, pick}
 use Rattle.folding.specs.Folding.{FoldedTo, FoldedBlocks}
+use Rattle.observation.proofs.Rising.{over}
 use Rattle.observation.proofs.ListedLaws.{rank-step-pivot, rank-step-other, rank-le, pick-old, pick-new, listed}
-
--- ---- every bit below n
-
-pub record AllBelow (n y : ℕ) : Type 0 where
-  pub set : (k : ℕ) → k < n → bitOf y k ≡ true
-  pub above : (k : ℕ) → n ≤ k → bitOf y k ≡ false
-
-pub all-start : AllBelow 0 0
-all-start = record { set = λ k h. absurd (not-suc-le-zero h); above = λ k h. bit-none k }
-
-pub all-step : (n y u z : ℕ) → u ≡ 2 ^ n → z ≡ bitXor y u → AllBelow n y → AllBelow (n + 1) z
-all-step n y u z hu hz A = rw add-one (record {
-  set = up-to n (λ k h. bit k ∙ ap₂ _⊕_ (A .set k h) (eqb-differ {m = k} {n = n} (omega arith))) (bit n ∙ ap₂ _⊕_ (A .above n (omega arith)) (eqb-same n));
-  above = λ k h. bit k ∙ ap₂ _⊕_ (A .above k (omega arith)) (eqb-differ {m = k} {n = n} (omega arith));
-})
-  where
-    bit : (k : ℕ) → bitOf z k ≡ bitOf y k ⊕ eqb k n
-    bit k = ap (λ x. bitOf x k) hz ∙ bit-xor k y u ∙ ap (λ b. bitOf y k ⊕ b) (ap (λ x. bitOf x k) hu ∙ bit-pow n k)
 
 -- ---- one row
 
@@ -80,6 +58,11 @@ module _ (l k p g : ℕ) (tab t s : List ℕ) (F : FoldedTo l k p g tab t s) whe
 
       within : (i : ℕ) → i < rank (bitOf p) (k + 1) → i < suc j
       within i h = omega (arith, rank-step-pivot (bitOf p) k e)
+
+-- From k on to q no row is a pivot.
+pub folded-over : (l k q p g j : ℕ) (tab t s : List ℕ) → k ≤ q → ((i : ℕ) → k ≤ i → i < q → bitOf p i ≡ false) → j ≡ rank (bitOf p) k → FoldedTo l k p g tab t s → (j ≡ rank (bitOf p) q) × FoldedTo l q p g tab t s
+folded-over l k q p g j tab t s h none e F =
+    over {P = bitOf p} {Q = λ i. (j ≡ rank (bitOf p) i) × FoldedTo l i p g tab t s} (λ i z x. (x .0 ∙ sym (rank-step-other (bitOf p) i z), folded-other l i p g tab t s (x .1) z)) k q h none (e, F)
 
 -- ---- the blocks
 

@@ -1,17 +1,13 @@
 // The rows of a table folded onto the pivots p of a basis, whose block 0 has the basis row of each pivot. The j-th pivot becomes state j, and
 // bit j of a folded row says whether the row shares an odd number of bits with the basis row of that pivot.
 ghost use mathlib.Core.Path.{_≡_};
-ghost use mathlib.Core.Bool.{true};
-ghost use mathlib.Core.List.{List};
-ghost use Prim.Native.Nat.{ℕ, _+_, _^_, _≤_, _<_};
+ghost use Prim.Native.Nat.{_+_, _≤_, _<_};
 ghost use lib.ListN.{length};
-ghost use Rattle.automata.specs.Mask.{bitOf};
 ghost use Rattle.rows.specs.Row.{width, mask};
 ghost use Rattle.rows.specs.Table.{blocks, size};
 ghost use Rattle.rows.specs.Machine.{automatonIn, Valid};
 ghost use Rattle.basis.specs.Basis.{basisSize};
 ghost use Rattle.lookup.specs.Lookup.{groups};
-ghost use Rattle.observation.specs.Listed.{rank};
 ghost use Rattle.folding.specs.Folding.{UnitAt, LowAt, FoldedTo, FoldedBlocks, Folds};
 use basis::Basis;
 use basis::WIDEST;
@@ -20,59 +16,20 @@ use rows::Machine;
 use rows::Row;
 use rows::Table;
 
-// Whether every bit below n is set.
-fn is_full(p: Row, n: usize) -> bool
-    requires { ⌜ n ≤ width ⌝ }
-    ensures { λ r. ⌜ (r ≡ true → (i : ℕ) → i < n → bitOf (mask p) i ≡ true) ⌝ }
-{
-    let mut i: usize = 0;
-    while i < n {
-        if !rows::has(p, i) {
-            return false;
-        }
-        i += 1;
-    }
-    true
-}
-
-// The row with every bit below n.
-fn all_below(n: usize) -> Row
-    requires { ⌜ n ≤ width ⌝ }
-    ensures { λ r. ⌜ (mask r < 2 ^ n) × ((i : ℕ) → i < n → bitOf (mask r) i ≡ true) ⌝ }
-{
-    let mut y = rows::none();
-    let mut i: usize = 0;
-    while i < n {
-        y = rows::xor(y, rows::unit(i));
-        i += 1;
-    }
-    y
-}
-
-// Row k of block l, if it is a pivot, folded and put as row j; the next row to put.
-fn fold_at(p: Row, tab: &Lookup, g: usize, t: &mut Table, l: usize, j: usize, k: usize) -> usize
-    requires { ⌜ (l < blocks) × (k < width) × (j ≡ rank (bitOf (mask p)) k) × (g ≤ groups) × (length (now t) ≡ size) ⌝ }
-    ensures { λ r. ⌜ (r ≡ rank (bitOf (mask p)) (k + 1)) × ((s : List ℕ) → FoldedTo l k (mask p) g (now (tab .entry)) s (now (t .entry)) → FoldedTo l (k + 1) (mask p) g (now (tab .entry)) s (now (t .exit))) ⌝ }
-{
-    if !rows::has(p, k) {
-        return j;
-    }
-    let x = rows::load(t, l, k);
-    let y = lookup::times(tab, g, x);
-    rows::store(t, l, j, y);
-    j + 1
-}
-
-// The rows of block l folded.
+// The rows of the pivots below n in block l, one after another, folded.
 fn fold_rows(p: Row, tab: &Lookup, g: usize, t: &mut Table, l: usize, n: usize)
     requires { ⌜ (l < blocks) × (n ≤ width) × (g ≤ groups) × (length (now t) ≡ size) ⌝ }
     ensures { λ r. ⌜ FoldedTo l n (mask p) g (now (tab .entry)) (now (t .entry)) (now (t .exit)) ⌝ }
 {
+    let mut z = rows::and(p, rows::below(n));
     let mut j: usize = 0;
-    let mut k: usize = 0;
-    while k < n {
-        j = fold_at(p, tab, g, t, l, j, k);
-        k += 1;
+    while !rows::is_none(z) {
+        let k = rows::lowest(z);
+        let x = rows::load(t, l, k);
+        let y = lookup::times(tab, g, x);
+        rows::store(t, l, j, y);
+        j += 1;
+        z = rows::clear_lowest(z);
     }
 }
 
@@ -96,12 +53,13 @@ pub fn fold(b: &Basis, p: Row, t: &mut Table, m: Machine, c: &mut Table) -> Mach
 {
     let n = m.states;
     let a = m.letters;
-    if is_full(p, n) {
+    let all = rows::below(n);
+    if rows::is_none(rows::xor(p, all)) {
         return m;
     }
     let d = columns::columns(b, p, n, c);
     let mut tab = [0u64; 256];
-    let g = lookup::fill(c, WIDEST, 0, all_below(n), &mut tab);
+    let g = lookup::fill(c, WIDEST, 0, all, &mut tab);
     fold_table(p, &tab, g, t, a, n);
     let i = lookup::times(&tab, g, m.initial);
     let f = lookup::times(&tab, g, rows::and(m.finals, p));

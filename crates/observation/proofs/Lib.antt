@@ -1,4 +1,5 @@
 pub mod ListedLaws
+pub mod Rising
 pub mod FoldLaws
 pub mod ObservedLaws
 pub mod ExploreLaws

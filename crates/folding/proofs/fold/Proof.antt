@@ -1,28 +1,37 @@
 -- `fold`: nothing changes where every state is a pivot; else every row is looked up among the columns.
-use mathlib.Core.Path.{refl}
+use mathlib.Core.Path.{refl, sym, ap, _∙_}
 use borrow.Author.Needs.{needs}
+use borrow.Author.Tests.{eqb-true}
+use Rattle.automata.specs.Mask.{bitOf}
 use Rattle.rows.specs.Row.{width, mask}
+use Rattle.rows.proofs.BitLaws.{same-row}
 use Rattle.basis.specs.Basis.{cell}
 use Rattle.lookup.specs.Lookup.{chosen}
 use Rattle.folding.proofs.AutomatonLaws.{automaton-full, automaton-folded}
 use Rattle.folding.proofs.fold.Statement.{statement}
 use Rattle.folding.proofs.fold.Tie as tie
 
-is-full-requires : tie.Need-is-full-requires
-is-full-requires c κs = search needs
+below-requires : tie.Need-below-requires
+below-requires c κs = search needs
+
+xor-requires : tie.Need-xor-requires
+xor-requires c κs = search needs
+
+is-none-requires : tie.Need-is-none-requires
+is-none-requires c κs = search needs
 
 returns : tie.Need-returns
 returns c =
-    let s = c .before .before in
+    let s = c .before .before .before .before in
     let a = s .args in
     let m = a .m in
-    (refl, automaton-full (m .letters) (a .t .now) (m .states) (mask (m .initial)) (mask (m .finals)) (s .pre .0) (mask (a .p)) (a .b .now) (s .pre .2) (c .before .is-full .ensures (c .if1 .taken)), s .pre .4)
+    let y = c .before .before .before .below in
+    let x = c .before .before .xor in
+    let e = same-row (mask (a .p)) (mask (y .result)) (sym (x .ensures) ∙ eqb-true (mask (x .result)) 0 (sym (c .before .is-none .ensures) ∙ c .if1 .taken)) in
+    (refl, automaton-full (m .letters) (a .t .now) (m .states) (mask (m .initial)) (mask (m .finals)) (s .pre .0) (mask (a .p)) (a .b .now) (s .pre .2) (λ k h. ap (λ v. bitOf v k) e ∙ y .ensures .1 k h), s .pre .4)
 
 columns-requires : tie.Need-columns-requires
 columns-requires c κs = search needs
-
-all-below-requires : tie.Need-all-below-requires
-all-below-requires c κs = search needs
 
 fill-requires : tie.Need-fill-requires
 fill-requires c κs = search needs
@@ -41,12 +50,12 @@ times-requires-2 c κs = search needs
 
 returns-2 : tie.Need-returns-2
 returns-2 c =
-    let s = c .before .before .before .before .before .before .before .before .before .before .before .before .before .before .before .before .before in
+    let s = c .before .before .before .before .before .before .before .before .before .before .before .before .before .before .before .before .before .before in
     let a = s .args in
     let m = a .m in
-    let k = c .before .before .before .before .before .before .before .before .before .before .before .before .before .columns in
+    let k = c .before .before .before .before .before .before .before .before .before .before .before .before .columns in
     let w = k .last .1 .1 .1 .0 in
-    let o = c .before .before .before .before .before .before .before .before .before .before .all-below in
+    let o = c .before .before .before .before .before .before .before .before .before .before .before .before .before .before .before .before .before .below in
     let f = c .before .before .before .before .before .before .before .before .fill in
     let tab = f .last .1 .1 .1 .1 .0 in
     let M = chosen (mask (o .result)) (cell width w 0) in
@@ -61,4 +70,15 @@ returns-2 c =
 pub fold-spec : {M : Type 1} → statement M
 fold-spec =
     tie.close
-    (tie.spec is-full-requires returns columns-requires all-below-requires fill-requires fold-table-requires times-requires and-requires times-requires-2 returns-2)
+    (tie.spec
+    below-requires
+    xor-requires
+    is-none-requires
+    returns
+    columns-requires
+    fill-requires
+    fold-table-requires
+    times-requires
+    and-requires
+    times-requires-2
+    returns-2)
