@@ -1,5 +1,5 @@
 -- The rows over one letter tried in turn, and the basis that they are inserted in.
-use mathlib.Core.Path.{_≡_, sym, ap, _∙_}
+use mathlib.Core.Path.{_≡_, ap, _∙_}
 use mathlib.Core.Bool.{Bool}
 use mathlib.Core.List.{List}
 use mathlib.Core.Option.{none}
@@ -7,15 +7,12 @@ use Prim.Native.Nat.{ℕ, suc, _+_, _^_, _<_, _≤_}
 use native.Mathlib.Nat.{lt-of-lt-of-le}
 use native.Mathlib.Numerals.{add-one}
 use lib.ListN.{length}
-use lib.Bits.{bitXor}
 use lib.Pow.{pow-mono}
 use Rattle.automata.specs.Mask.{bitOf}
 use Rattle.automata.specs.FirstDifference.{firstDifference}
-use Rattle.automata.proofs.Xor.{xor-zero}
 use Rattle.rows.specs.declared.Machine.{Machine}
 use Rattle.rows.specs.declared.Row.{Row}
 use Rattle.rows.specs.Row.{mask}
-use Rattle.rows.proofs.BitLaws.{bit-xor, bit-none, bit-ext}
 use Rattle.record.specs.Record.{statesOf, lettersOf, automatonOf}
 use Rattle.hunt.specs.Both.{Paired}
 use Rattle.hunt.proofs.BothLaws.{paired-initial}
@@ -26,10 +23,6 @@ use Rattle.verdict.specs.Judged.{Undecided}
 use Rattle.verdict.proofs.RowLaws.{row-start, row-below}
 use Rattle.unary.specs.Powers.{power, rowsOf, Powers, Trying}
 use Rattle.unary.proofs.PowerLaws.{powers-spanned}
-
--- Rows whose xor has no bit are the same.
-pub same-row : (x y : ℕ) → bitXor x y ≡ 0 → x ≡ y
-same-row x y z = bit-ext x y (λ j. xor-zero (sym (bit-xor j x y) ∙ ap (λ v. bitOf v j) z ∙ bit-none j))
 
 module _ (bs cs : List ℕ) (m : Machine) (P : Paired bs cs m) where
   abbrev N : ℕ

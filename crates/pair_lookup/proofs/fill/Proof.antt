@@ -1,12 +1,10 @@
 -- `fill`: the groups below g are filled.
-use mathlib.Core.Path.{_≡_, refl, _∙_}
-use Prim.Native.Nat.{_+_, _-_, _*_, _/_, _≤_}
+use mathlib.Core.Path.{_≡_, _∙_}
+use Prim.Native.Nat.{_+_, _-_, _/_, _≤_}
 use native.Mathlib.Omega.{arith}
-use denote.Ref.{now}
 use lib.ListN.{length}
 use Rattle.lookup.specs.Lookup.{groups, lookupSize, Tabled}
 use Rattle.lookup.proofs.LookupLaws.{tabled-none, tabled-step}
-use Rattle.record.specs.Record.{statesOf}
 use Rattle.record.proofs.Refusals.{good-check}
 use Rattle.pair_lookup.specs.Rows.{rowBeside}
 use Rattle.pair_lookup.proofs.fill.Statement.{statement}

@@ -1,11 +1,8 @@
 -- `row_beside`: a row of the first record, or of the second, moved up, or none.
-use mathlib.Core.Path.{_≡_}
-use Prim.Native.Nat.{_+_, _≤_}
 use native.Mathlib.Omega.{arith}
 use borrow.Author.Needs.{needs}
 use denote.Ref.{now}
 use Rattle.rows.specs.Row.{mask}
-use Rattle.record.specs.Record.{statesOf, rowAt}
 use Rattle.record.proofs.Refusals.{good-check}
 use Rattle.record.proofs.Encode.{row-below}
 use Rattle.products.proofs.PairLaws.{moves-up}

@@ -5,12 +5,13 @@ use borrow.Author.Needs.{needs}
 use borrow.Author.Tests.{eqb-true}
 use denote.Ref.{now}
 use Rattle.rows.specs.Row.{mask}
+use Rattle.rows.proofs.BitLaws.{same-row}
 use Rattle.hunt.specs.Hunt.{shared}
 use Rattle.verdict.specs.Judged.{Undecided}
 use Rattle.verdict.proofs.RowLaws.{side-told, row-start, row-below}
 use Rattle.unary.specs.Powers.{power, Powers}
 use Rattle.unary.proofs.PowerLaws.{powers-start, powers-row, powers-found, powers-next}
-use Rattle.unary.proofs.TryLaws.{same-row, initial-again}
+use Rattle.unary.proofs.TryLaws.{initial-again}
 use Rattle.unary.proofs.first_power.Statement.{statement}
 use Rattle.unary.proofs.first_power.Tie as tie
 

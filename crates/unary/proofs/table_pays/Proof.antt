@@ -1,7 +1,6 @@
 -- `table_pays`: the record has a byte of states, and as many as a row has bits.
 use native.Mathlib.Omega.{arith}
 use borrow.Author.Needs.{needs}
-use denote.Ref.{now}
 use Rattle.record.proofs.Refusals.{good-check}
 use Rattle.unary.proofs.table_pays.Statement.{statement}
 use Rattle.unary.proofs.table_pays.Tie as tie

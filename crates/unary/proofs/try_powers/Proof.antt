@@ -6,6 +6,7 @@ use borrow.Author.Tests.{eqb-true}
 use denote.Ref.{now}
 use lib.ListN.{length}
 use Rattle.rows.specs.Row.{width, mask}
+use Rattle.rows.proofs.BitLaws.{same-row}
 use Rattle.hunt.specs.Hunt.{shared}
 use Rattle.hunt.proofs.BothLaws.{paired-sizes}
 use Rattle.triangular.proofs.SpanLaws.{triangular-start}
@@ -13,7 +14,7 @@ use Rattle.verdict.specs.Rows.{RowOf}
 use Rattle.verdict.proofs.RowLaws.{side-told, row-below}
 use Rattle.unary.specs.Powers.{power, Trying}
 use Rattle.unary.proofs.PowerLaws.{powers-end, powers-row, powers-found, powers-next}
-use Rattle.unary.proofs.TryLaws.{same-row, row-fits, initial-fits, trying-start, trying-next, trying-old, still-undecided}
+use Rattle.unary.proofs.TryLaws.{row-fits, initial-fits, trying-start, trying-next, trying-old, still-undecided}
 use Rattle.unary.proofs.try_powers.Statement.{statement}
 use Rattle.unary.proofs.try_powers.Tie as tie
 

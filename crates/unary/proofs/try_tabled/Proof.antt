@@ -1,6 +1,6 @@
 -- `try_tabled`: as in `try_powers`, from h letters on; the table gives the products with the two records side by side.
 use mathlib.Core.Path.{_≡_, refl, sym, _∙_}
-use Prim.Native.Nat.{suc, _+_, _-_, _*_, _<_}
+use Prim.Native.Nat.{suc, _+_, _-_, _<_}
 use native.Mathlib.Omega.{arith}
 use borrow.Author.Tests.{eqb-true}
 use denote.Ref.{now}
@@ -8,6 +8,7 @@ use lib.ListN.{length}
 use Rattle.rows.specs.Row.{width, mask}
 use Rattle.rows.specs.Product.{product}
 use Rattle.rows.specs.Beside.{beside}
+use Rattle.rows.proofs.BitLaws.{same-row}
 use Rattle.record.specs.Record.{statesOf, rowAt}
 use Rattle.hunt.specs.Hunt.{shared}
 use Rattle.hunt.proofs.BothLaws.{paired-sizes}
@@ -17,7 +18,7 @@ use Rattle.verdict.specs.Rows.{RowOf}
 use Rattle.verdict.proofs.RowLaws.{side-told, row-below}
 use Rattle.unary.specs.Powers.{power, Trying}
 use Rattle.unary.proofs.PowerLaws.{powers-end, powers-row, powers-found, powers-next}
-use Rattle.unary.proofs.TryLaws.{same-row, row-fits, trying-next, trying-old}
+use Rattle.unary.proofs.TryLaws.{row-fits, trying-next, trying-old}
 use Rattle.unary.proofs.try_tabled.Statement.{statement}
 use Rattle.unary.proofs.try_tabled.Tie as tie
 
