@@ -1,2 +1,3 @@
 -- Laws that belong to no one function.
-pub mod Granted
+pub mod Behind
+pub mod Pages
