@@ -11,7 +11,7 @@ use rows::Table;
 
 const MAX_STATES: usize = 32;
 
-// The minimal record of the automaton of t and m, or refusal 11 or 12; the rows of t are folded.
+// The minimal record of the automaton of t and m, or refusal 11 or 12. The table t is left with the folded automaton.
 pub fn finish(t: &mut Table, m: Machine, out: &mut [u8]) -> Written
     requires { ⌜ Valid (now t) m ⌝ }
     ensures answer { λ r. ⌜ r ≡ answerOf (resultOf (m .letters) (automatonIn (now (t .entry)) m) (length (now (out .entry)))) ⌝ }

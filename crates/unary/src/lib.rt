@@ -16,14 +16,16 @@ use verdict::Verdict;
 // How many states of both records together are few.
 const FEW: usize = 8;
 
-// How many letters are tried before a table of the matrix may pay.
+// How many states of both records together, and how many letters tried, are too few for a table of the matrix to pay.
+const SMALL: usize = 12;
+
 const SHORT: usize = 3;
 
-// Whether a table pays: there are more than few states, and the row y has many bits. This decides how products are made, not what they are.
+// Whether a table pays: there are enough states, and the row y has many bits. This decides how products are made, not what they are.
 fn table_pays(first: &[u8], n: usize, y: Row) -> bool
     requires { ⌜ WellFormed (now first) × (mask y < 2 ^ width) ⌝ }
 {
-    if n <= FEW {
+    if n <= SMALL {
         return false;
     }
     !pair_products::are_single(record::size(first[5]), y)
