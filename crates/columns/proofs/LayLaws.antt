@@ -39,7 +39,7 @@ laid-old : (k p r : ℕ) (b c : List ℕ) → Laid k p b r c → (j : ℕ) → j
 laid-old k p r b c L j h = L .rows j h ∙ ap (cell width b 0) (sym (pick-old (bitOf p) k j (subst (λ x. j < x) (L .count) h)))
 
 -- k is no pivot.
-pub laid-other : (k p r : ℕ) (b c : List ℕ) → bitOf p k ≡ false → Laid k p b r c → Laid (k + 1) p b r c
+laid-other : (k p r : ℕ) (b c : List ℕ) → bitOf p k ≡ false → Laid k p b r c → Laid (k + 1) p b r c
 laid-other k p r b c e L = record {
   count = L .count ∙ sym (rank-step-other (bitOf p) k e);
   rows = laid-old k p r b c L;

@@ -29,7 +29,7 @@ folded-start l p g tab t h = record { rows = λ M T j z. absurd (not-suc-le-zero
 
 module _ (l k p g : ℕ) (tab t s : List ℕ) (F : FoldedTo l k p g tab t s) where
   -- Row k is no pivot.
-  pub folded-other : bitOf p k ≡ false → FoldedTo l (k + 1) p g tab t s
+  folded-other : bitOf p k ≡ false → FoldedTo l (k + 1) p g tab t s
   folded-other e = record {
     rows = λ M T j h. let z : j < rank (bitOf p) k = subst (λ r. j < r) (rank-step-other (bitOf p) k e) h in F .rows M T j z ∙ ap (λ i. product (g * 4) (at t l i) M) (sym (pick-old (bitOf p) k j z));
     rest = λ i h. F .rest i (omega arith);

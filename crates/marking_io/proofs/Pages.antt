@@ -24,7 +24,7 @@ module _ (s : List ℕ) (from : ℕ) where
   unfolding linesBetween
   lines-none = let none : from - from ≡ 0 = omega arith in ap (λ m. joinBelow m lineFrom) none
 
-  pub lines-more : (to : ℕ) → from ≤ to → linesBetween s from (to + 1) ≡ linesBetween s from to ++ markLine s to
+  lines-more : (to : ℕ) → from ≤ to → linesBetween s from (to + 1) ≡ linesBetween s from to ++ markLine s to
   unfolding linesBetween
   lines-more to h =
       let more : to + 1 - from ≡ suc (to - from) = omega arith in
