@@ -45,7 +45,7 @@ pub fn try_pair(
         return Hunt::Going(s);
     }
     trail::link(w, d, k, l);
-    // The search ends here, so that the row is not added to the basis.
+    // The search ends here: an accepted row need not be added to the basis.
     if rows::parity(y, f) {
         return Hunt::Found { number: d, row: y };
     }

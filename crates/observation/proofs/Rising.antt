@@ -1,7 +1,7 @@
 -- The pivots below n in rising order, the lowest bit first: which are ahead, and those passed over between two of them.
 --   Ahead P k n z    z has the pivots from k up to n
-use mathlib.Core.Path.{_≡_, refl, sym, ap, ap₂, subst, _∙_}
-use mathlib.Core.Bool.{Bool, true, false, _&&_, and-false, true≢false}
+use mathlib.Core.Path.{_≡_, sym, ap, ap₂, subst, _∙_}
+use mathlib.Core.Bool.{Bool, true, false, _&&_, and-true, and-false, true≢false}
 use Prim.Native.Nat.{ℕ, zero, suc, _+_, _-_, _^_, _<_, _≤_}
 use native.Mathlib.Nat.{not-suc-le-zero}
 use native.Mathlib.Decide.{decLt, ℕ-discrete}
@@ -19,10 +19,6 @@ pub record Ahead (P : ℕ → Bool) (k n z : ℕ) : Type 0 where
   pub behind : (i : ℕ) → i < k → bitOf z i ≡ false
   pub same : (i : ℕ) → k ≤ i → i < n → bitOf z i ≡ P i
   pub past : (i : ℕ) → n ≤ i → bitOf z i ≡ false
-
-and-true : (b : Bool) → b && true ≡ b
-and-true true = refl
-and-true false = refl
 
 -- All of them are: y has every bit below n.
 pub ahead-start : (p n y z : ℕ) → y < 2 ^ n → ((i : ℕ) → i < n → bitOf y i ≡ true) → z ≡ bitAnd p y → Ahead (bitOf p) 0 n z

@@ -6,7 +6,7 @@ use native.Mathlib.Nat.{le-of-suc-le-suc, zero-div, div-eq-of-lt, lt-of-lt-of-le
 use native.Mathlib.Omega.{arith}
 use lib.Arith.{digits-div, digits-mod}
 use native.Mathlib.Decide.{decLt}
-use borrow.Author.Tests.{eq-eqb, ne-eqb, lt-ltb, le-ltb}
+use borrow.Author.Tests.{eq-eqb, ne-eqb, lt-ltb, le-ltb, eqb-true}
 use lib.Dec.{eqb, ltb, eqb·zero-suc, eqb·suc-zero, eqb·suc-suc}
 use lib.Pow.{pow-pos, shr-shr, shl-shr, pow-mono, shl-exact}
 use lib.Bits.{differ, bitXor, bitAnd, xor-step, and-step, or-step, shifted-half, shifted-even, and-mask, bitOr, or-add-and, and-le-l, and-le-r}
@@ -178,6 +178,9 @@ bit-shl-low x zero j l = absurd (not-suc-le-zero l)
 bit-shl-low x (suc k) zero l = bit-zero (x * 2 ^ suc k) ∙ ap (λ d. eqb d 1) (shifted-even x k)
 bit-shl-low x (suc k) (suc j) l = bit-suc (x * 2 ^ suc k) j ∙ ap (λ y. bitOf y j) (shifted-half x k) ∙ bit-shl-low x k j (omega arith)
 
--- Numbers whose xor has no bit are the same.
-pub same-row : (x y : ℕ) → bitXor x y ≡ 0 → x ≡ y
+-- Numbers whose xor has no bit are the same, and so are two rows where the test of their xor says that it has none.
+same-row : (x y : ℕ) → bitXor x y ≡ 0 → x ≡ y
 same-row x y z = bit-ext x y (λ j. xor-zero (sym (bit-xor j x y) ∙ ap (λ v. bitOf v j) z ∙ bit-none j))
+
+pub same-told : {b : Bool} (x y : ℕ) {z : ℕ} → z ≡ bitXor x y → b ≡ eqb z 0 → b ≡ true → x ≡ y
+same-told x y {z} e f t = same-row x y (sym e ∙ eqb-true z 0 (sym f ∙ t))

@@ -1,10 +1,9 @@
 -- `fold`: nothing changes where every state is a pivot; else every row is looked up among the columns.
-use mathlib.Core.Path.{refl, sym, ap, _∙_}
+use mathlib.Core.Path.{refl, ap, _∙_}
 use borrow.Author.Needs.{needs}
-use borrow.Author.Tests.{eqb-true}
 use Rattle.automata.specs.Mask.{bitOf}
 use Rattle.rows.specs.Row.{width, mask}
-use Rattle.rows.proofs.BitLaws.{same-row}
+use Rattle.rows.proofs.BitLaws.{same-told}
 use Rattle.basis.specs.Basis.{cell}
 use Rattle.lookup.specs.Lookup.{chosen}
 use Rattle.folding.proofs.AutomatonLaws.{automaton-full, automaton-folded}
@@ -27,7 +26,7 @@ returns c =
     let m = a .m in
     let y = c .before .before .before .below in
     let x = c .before .before .xor in
-    let e = same-row (mask (a .p)) (mask (y .result)) (sym (x .ensures) ∙ eqb-true (mask (x .result)) 0 (sym (c .before .is-none .ensures) ∙ c .if1 .taken)) in
+    let e = same-told (mask (a .p)) (mask (y .result)) (x .ensures) (c .before .is-none .ensures) (c .if1 .taken) in
     (refl, automaton-full (m .letters) (a .t .now) (m .states) (mask (m .initial)) (mask (m .finals)) (s .pre .0) (mask (a .p)) (a .b .now) (s .pre .2) (λ k h. ap (λ v. bitOf v k) e ∙ y .ensures .1 k h), s .pre .4)
 
 columns-requires : tie.Need-columns-requires

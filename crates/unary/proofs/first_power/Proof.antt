@@ -2,16 +2,15 @@
 use mathlib.Core.Path.{_≡_, sym, _∙_}
 use native.Mathlib.Omega.{arith}
 use borrow.Author.Needs.{needs}
-use borrow.Author.Tests.{eqb-true}
 use denote.Ref.{now}
 use Rattle.rows.specs.Row.{mask}
-use Rattle.rows.proofs.BitLaws.{same-row}
+use Rattle.rows.proofs.BitLaws.{same-told}
 use Rattle.hunt.specs.Hunt.{shared}
 use Rattle.verdict.specs.Judged.{Undecided}
 use Rattle.verdict.proofs.RowLaws.{side-told, row-start, row-below}
 use Rattle.unary.specs.Powers.{power, Powers}
 use Rattle.unary.proofs.PowerLaws.{powers-start, powers-row, powers-found, powers-next}
-use Rattle.unary.proofs.TryLaws.{initial-again}
+use Rattle.unary.proofs.TryLaws.{initial-again, still-undecided}
 use Rattle.unary.proofs.first_power.Statement.{statement}
 use Rattle.unary.proofs.first_power.Tie as tie
 
@@ -76,11 +75,11 @@ returns-2 c =
     let q = c .before .before .before .before .before .before .before .times-pair in
     let x = c .before .before .xor in
     initial-again (now (a .first)) (now (a .second)) (a .m) (s .pre .2 .paired) (c .before .before .before .before .before .link .last .0) (mask (q .result)) (one (c .before .before .before)) (s .pre .1)
-    (same-row (mask (q .result)) (mask (a .m .initial)) (sym (x .ensures) ∙ eqb-true (mask (x .result)) 0 (sym (c .before .is-none .ensures) ∙ c .if2 .taken)))
+    (same-told (mask (q .result)) (mask (a .m .initial)) (x .ensures) (c .before .is-none .ensures) (c .if2 .taken))
 
 -- Nothing but the trail has changed.
 still : (c : tie.Else1) → Undecided (now (c .before .before .before .before .before .before .before .before .before .args .first)) (now (c .before .before .before .before .before .before .before .before .before .args .second)) (c .before .before .before .before .before .before .before .before .before .args .m) (c .before .before .before .before .before .before .before .before .before .args .g) (c .before .before .link .last .0)
-still c = let U = c .before .before .before .before .before .before .before .before .before .pre .2 in record { paired = U .paired; trail = one c .trail; empty = U .empty; column = U .column }
+still c = let s = c .before .before .before .before .before .before .before .before .before in let a = s .args in still-undecided (now (a .first)) (now (a .second)) (a .m) (a .g) (a .w .now) (c .before .before .link .last .0) (s .pre .2) (one c .trail)
 
 powers-many-requires : tie.Need-powers-many-requires
 powers-many-requires c κs = (c .before .before .before .before .before .before .before .before .before .before .before .before .before .before .before .pre .1, still (c .before .before .before .before .before .before), one (c .before .before .before .before .before .before))

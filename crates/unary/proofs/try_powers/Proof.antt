@@ -2,11 +2,10 @@
 use mathlib.Core.Path.{_≡_, refl, sym, _∙_}
 use Prim.Native.Nat.{suc, _+_, _-_, _<_}
 use native.Mathlib.Omega.{arith}
-use borrow.Author.Tests.{eqb-true}
 use denote.Ref.{now}
 use lib.ListN.{length}
 use Rattle.rows.specs.Row.{width, mask}
-use Rattle.rows.proofs.BitLaws.{same-row}
+use Rattle.rows.proofs.BitLaws.{same-told}
 use Rattle.hunt.specs.Hunt.{shared}
 use Rattle.hunt.proofs.BothLaws.{paired-sizes}
 use Rattle.triangular.proofs.SpanLaws.{triangular-start}
@@ -94,7 +93,7 @@ returns-2 c =
     let i = c .before .before .before .before .before .insert2 in
     let x = c .before .before .xor in
     trying-old (now (a .first)) (now (a .second)) (a .m) (s .pre .2 .paired) (v .w) (v .k) (mask (v .y)) (mask (v .p)) (v .e) (v .inv .2) (mask (i .result)) (i .last .0) (i .ensures) (s .pre .0)
-    (same-row (mask (i .result)) (mask (v .p)) (sym (x .ensures) ∙ eqb-true (mask (x .result)) 0 (sym (c .before .is-none .ensures) ∙ c .if3 .taken)))
+    (same-told (mask (i .result)) (mask (v .p)) (x .ensures) (c .before .is-none .ensures) (c .if3 .taken))
 
 times-pair-requires : tie.Need-times-pair-requires Inv-loop μ-loop
 times-pair-requires c κs =

@@ -2,13 +2,12 @@
 use mathlib.Core.Path.{_≡_, refl, sym, _∙_}
 use Prim.Native.Nat.{suc, _+_, _-_, _<_}
 use native.Mathlib.Omega.{arith}
-use borrow.Author.Tests.{eqb-true}
 use denote.Ref.{now}
 use lib.ListN.{length}
 use Rattle.rows.specs.Row.{width, mask}
 use Rattle.rows.specs.Product.{product}
 use Rattle.rows.specs.Beside.{beside}
-use Rattle.rows.proofs.BitLaws.{same-row}
+use Rattle.rows.proofs.BitLaws.{same-told}
 use Rattle.record.specs.Record.{statesOf, rowAt}
 use Rattle.hunt.specs.Hunt.{shared}
 use Rattle.hunt.proofs.BothLaws.{paired-sizes}
@@ -61,7 +60,7 @@ returns c =
     let i = c .before .before .before .before .before .insert in
     let x = c .before .before .xor in
     trying-old (now (a .first)) (now (a .second)) (a .m) (s .pre .3 .paired) (v .w) (v .j) (mask (v .y)) (mask (v .pivots)) (v .e) (v .inv .2) (mask (i .result)) (i .last .0) (i .ensures) (s .pre .0)
-    (same-row (mask (i .result)) (mask (v .pivots)) (sym (x .ensures) ∙ eqb-true (mask (x .result)) 0 (sym (c .before .is-none .ensures) ∙ c .if1 .taken)))
+    (same-told (mask (i .result)) (mask (v .pivots)) (x .ensures) (c .before .is-none .ensures) (c .if1 .taken))
 
 times-requires : tie.Need-times-requires Inv-loop μ-loop
 times-requires c κs = c .before .before .before .before .before .before .before .before .before .before .fill .ensures .0
