@@ -14,7 +14,7 @@ use Rattle.automata.specs.Language.{Language, Same, symmetricDifference}
 use Rattle.automata.specs.Dimension.{Basis}
 use Rattle.automata.specs.WordList.{wordsBelow, firstOf, Member}
 use Rattle.automata.specs.MinimalOf.{minimalOf, dimensionOf}
-use Rattle.automata.specs.FirstDifference.{firstDifference, FirstDifference, Compared}
+use Rattle.automata.specs.FirstDifference.{firstDifference, FirstDifference, IsDifference}
 use Rattle.automata.proofs.Xor.{bool-cases, xor-self, xor-zero}
 use Rattle.automata.proofs.Shortlex.{shortlex-irrefl, shortlex-trans, shortlex-cases}
 use Rattle.automata.proofs.Basis.{basis-free, first-is-basis}
@@ -65,7 +65,7 @@ first-of f (x ∷ xs) s = go (bool-cases (f x)) (firstOf f xs) (first-of f xs (s
     go (inr e) o r = subst (λ b. FirstOf f (x ∷ xs) (cond b (some x) o)) (sym e) (later e o r)
 
 -- The search bounded by the states gives the right answer over all words.
-pub first-difference : (a : ℕ) (A B : Automaton) → Compared a (accepts A) (accepts B) (firstDifference a A B)
+pub first-difference : (a : ℕ) (A B : Automaton) → IsDifference a (accepts A) (accepts B) (firstDifference a A B)
 unfolding firstDifference
 first-difference a A B = go (firstOf f (wordsBelow a k)) (first-of f (wordsBelow a k) (below-sorted a k))
   where
@@ -79,7 +79,7 @@ first-difference a A B = go (firstOf f (wordsBelow a k)) (first-of f (wordsBelow
     short u w (inl h) p = omega arith
     short u w (inr h) p = omega arith
 
-    go : (o : Option (List ℕ)) → FirstOf f (wordsBelow a k) o → Compared a (accepts A) (accepts B) o
+    go : (o : Option (List ℕ)) → FirstOf f (wordsBelow a k) o → IsDifference a (accepts A) (accepts B) o
     go none r = same-by-short a A B (λ v ov sv. xor-zero (r v (below-complete a k v sv ov)))
     go (some w) r =
         let t = below-sound a k w (r .member) in
@@ -102,16 +102,16 @@ same-or-first : (a : ℕ) (L K : Language) (w : List ℕ) → Same a L K → Fir
 same-or-first a L K w s f = false≢true (sym (ap (λ b. b ⊕ K w) (s w (f .over)) ∙ xor-self (K w)) ∙ f .differs)
 
 -- A comparison has one right answer.
-pub compared-unique : (a : ℕ) (L K : Language) (x y : Option (List ℕ)) → Compared a L K x → Compared a L K y → x ≡ y
-compared-unique a L K none none p q = refl
-compared-unique a L K none (some w) p q = absurd (same-or-first a L K w p q)
-compared-unique a L K (some u) none p q = absurd (same-or-first a L K u q p)
-compared-unique a L K (some u) (some w) p q = ap some (first-unique a L K u w p q)
+pub difference-unique : (a : ℕ) (L K : Language) (x y : Option (List ℕ)) → IsDifference a L K x → IsDifference a L K y → x ≡ y
+difference-unique a L K none none p q = refl
+difference-unique a L K none (some w) p q = absurd (same-or-first a L K w p q)
+difference-unique a L K (some u) none p q = absurd (same-or-first a L K u q p)
+difference-unique a L K (some u) (some w) p q = ap some (first-unique a L K u w p q)
 
 -- It is one of the languages, not of the automata.
-compared-same : (a : ℕ) (L K L′ K′ : Language) (x : Option (List ℕ)) → Same a L L′ → Same a K K′ → Compared a L K x → Compared a L′ K′ x
-compared-same a L K L′ K′ none p q s = λ w ow. sym (p w ow) ∙ s w ow ∙ q w ow
-compared-same a L K L′ K′ (some w) p q s = record {
+differences-same : (a : ℕ) (L K L′ K′ : Language) (x : Option (List ℕ)) → Same a L L′ → Same a K K′ → IsDifference a L K x → IsDifference a L′ K′ x
+differences-same a L K L′ K′ none p q s = λ w ow. sym (p w ow) ∙ s w ow ∙ q w ow
+differences-same a L K L′ K′ (some w) p q s = record {
   over = s .over;
   differs = ap₂ _⊕_ (sym (p w (s .over))) (sym (q w (s .over))) ∙ s .differs;
   first = λ u ou h. sym (p u ou) ∙ s .first u ou h ∙ q u ou;
@@ -119,22 +119,22 @@ compared-same a L K L′ K′ (some w) p q s = record {
 
 pub difference-same : (a : ℕ) (A B A′ B′ : Automaton) → Same a (accepts A) (accepts A′) → Same a (accepts B) (accepts B′) → firstDifference a A B ≡ firstDifference a A′ B′
 difference-same a A B A′ B′ p q =
-    compared-unique a (accepts A′) (accepts B′) (firstDifference a A B) (firstDifference a A′ B′)
-    (compared-same a (accepts A) (accepts B) (accepts A′) (accepts B′) (firstDifference a A B) p q (first-difference a A B)) (first-difference a A′ B′)
+    difference-unique a (accepts A′) (accepts B′) (firstDifference a A B) (firstDifference a A′ B′)
+    (differences-same a (accepts A) (accepts B) (accepts A′) (accepts B′) (firstDifference a A B) p q (first-difference a A B)) (first-difference a A′ B′)
 
 -- What the function names is the first difference over all words, and where it names none the languages are the same.
 pub difference-none : (a : ℕ) (A B : Automaton) → firstDifference a A B ≡ none → Same a (accepts A) (accepts B)
-difference-none a A B e = subst (Compared a (accepts A) (accepts B)) e (first-difference a A B)
+difference-none a A B e = subst (IsDifference a (accepts A) (accepts B)) e (first-difference a A B)
 
 pub difference-some : (a : ℕ) (A B : Automaton) (w : List ℕ) → firstDifference a A B ≡ some w → FirstDifference a (accepts A) (accepts B) w
-difference-some a A B w e = subst (Compared a (accepts A) (accepts B)) e (first-difference a A B)
+difference-some a A B w e = subst (IsDifference a (accepts A) (accepts B)) e (first-difference a A B)
 
 -- And the other way round.
 pub none-difference : (a : ℕ) (A B : Automaton) → Same a (accepts A) (accepts B) → firstDifference a A B ≡ none
-none-difference a A B s = compared-unique a (accepts A) (accepts B) (firstDifference a A B) none (first-difference a A B) s
+none-difference a A B s = difference-unique a (accepts A) (accepts B) (firstDifference a A B) none (first-difference a A B) s
 
 pub some-difference : (a : ℕ) (A B : Automaton) (w : List ℕ) → FirstDifference a (accepts A) (accepts B) w → firstDifference a A B ≡ some w
-some-difference a A B w f = compared-unique a (accepts A) (accepts B) (firstDifference a A B) (some w) (first-difference a A B) f
+some-difference a A B w f = difference-unique a (accepts A) (accepts B) (firstDifference a A B) (some w) (first-difference a A B) f
 
 -- The first difference is a basis word of the symmetric difference.
 pub difference-basis : (a : ℕ) (L K : Language) (w : List ℕ) → FirstDifference a L K w → Basis a (symmetricDifference L K) w

@@ -15,7 +15,7 @@ use Rattle.automata.specs.Word.{Over, Shortlex}
 use Rattle.automata.specs.Dimension.{Basis, FromEarlier, quotients}
 use Rattle.automata.specs.Minimal.{AllBasis, Minimal}
 use Rattle.automata.specs.WordList.{wordsBelow, allOf, Member}
-use Rattle.automata.specs.MinimalOf.{withBit, choose, fits, coefs, spans, greedy, basisWords, automatonOf, minimalOf}
+use Rattle.automata.specs.MinimalOf.{withBit, choose, fits, coefs, spans, greedy, basisWords, automatonOn, minimalOf}
 use Rattle.automata.proofs.Below.{up-to}
 use Rattle.automata.proofs.Xor.{bool-cases, xor-cong, xor-self, xor-false, xor-pick, eqb-same, eqb-differ}
 use Rattle.automata.proofs.Shortlex.{over-append, shortlex-irrefl, shortlex-trans}
@@ -250,7 +250,7 @@ module _ (a : ℕ) (A : Automaton) (n : ℕ) (L : Language) (same : Same a L (ac
       go w (inr m) = absurd m
 
   -- The automaton on the basis words is minimal.
-  greedy-minimal : Minimal a L (automatonOf a n L (basisWords a n L)) (basisWords a n L)
+  greedy-minimal : Minimal a L (automatonOn a n L (basisWords a n L)) (basisWords a n L)
   greedy-minimal = record {
     words = all-basis;
     size = refl;

@@ -22,20 +22,20 @@ use Rattle.automata.proofs.Minimal.{minimal-same}
 use Rattle.automata.proofs.Tree.{words-length, words-at, tree-reduced}
 use Rattle.automata.proofs.Dimension.{minimal-is}
 use Rattle.automata.proofs.Fields.{bits-fields}
-use Rattle.automata.proofs.FirstDifference.{first-difference, compared-unique}
+use Rattle.automata.proofs.FirstDifference.{first-difference, difference-unique}
 
 -- ---- comparison
 
 module _ (a : ℕ) (A B C : Automaton) (ts : List (List ℕ)) (R : Reduced a (sumOf A B) C ts) where
   -- The search over the sum found no accepted word: the languages are the same.
   compare-same : ((k : ℕ) → k < length ts → accepts (sumOf A B) (getD ts k []) ≡ false) → firstDifference a A B ≡ none
-  compare-same h = compared-unique a (accepts A) (accepts B) (firstDifference a A B) none (first-difference a A B)
+  compare-same h = difference-unique a (accepts A) (accepts B) (firstDifference a A B) none (first-difference a A B)
       (λ w ow. xor-zero (sym (accepts-sum A B w) ∙ none-accepted a (sumOf A B) C ts R h w ow))
 
   -- The first accepted word that it found is the first difference.
   compare-differs : (k : ℕ) → k < length ts → accepts (sumOf A B) (getD ts k []) ≡ true → ((i : ℕ) → i < k → accepts (sumOf A B) (getD ts i []) ≡ false)
       → firstDifference a A B ≡ some (getD ts k [])
-  compare-differs k hk e h = compared-unique a (accepts A) (accepts B) (firstDifference a A B) (some (getD ts k [])) (first-difference a A B)
+  compare-differs k hk e h = difference-unique a (accepts A) (accepts B) (firstDifference a A B) (some (getD ts k [])) (first-difference a A B)
       (record {
         over = R .spanning .over k hk;
         differs = sym (accepts-sum A B (getD ts k [])) ∙ e;

@@ -9,7 +9,7 @@ use native.Mathlib.Decide.{ℕ-discrete}
 use native.Mathlib.Omega.{arith}
 use lib.ListN.{length}
 use Rattle.automata.specs.Word.{Over, Shortlex}
-use Rattle.automata.specs.WordList.{joinBelow, wordsOf, wordsBelow, allOf, Member}
+use Rattle.automata.specs.WordList.{joinBelow, wordsOfLength, wordsBelow, allOf, Member}
 
 abbrev pub Sorted : List (List ℕ) → Type 0
 Sorted [] = Unit {0}
@@ -85,39 +85,39 @@ sorted-cons l (x ∷ xs) s = (λ u m. let t = mem-cons-cases l u xs m in rw (t .
 
 -- ---- the words of one length, and those below a length
 
-pub words-sound : (a n : ℕ) (w : List ℕ) → Member w (wordsOf a n) → (length w ≡ n) × Over a w
+pub words-sound : (a n : ℕ) (w : List ℕ) → Member w (wordsOfLength a n) → (length w ≡ n) × Over a w
 words-sound a zero w (inl e) = (ap length e, subst (Over a) (sym e) tt)
 words-sound a zero w (inr m) = absurd m
-words-sound a (suc n) w m = go (mem-join-cases w a (λ l. map (λ u. l ∷ u) (wordsOf a n)) m) (λ u q. words-sound a n u q)
+words-sound a (suc n) w m = go (mem-join-cases w a (λ l. map (λ u. l ∷ u) (wordsOfLength a n)) m) (λ u q. words-sound a n u q)
   where
-    go : (l : ℕ) × (l < a) × Member w (map (λ u. l ∷ u) (wordsOf a n)) → ((u : List ℕ) → Member u (wordsOf a n) → (length u ≡ n) × Over a u) → (length w ≡ suc n) × Over a w
+    go : (l : ℕ) × (l < a) × Member w (map (λ u. l ∷ u) (wordsOfLength a n)) → ((u : List ℕ) → Member u (wordsOfLength a n) → (length u ≡ n) × Over a u) → (length w ≡ suc n) × Over a w
     go t ih =
-        let s = mem-cons-cases (t .0) w (wordsOf a n) (t .2) in
+        let s = mem-cons-cases (t .0) w (wordsOfLength a n) (t .2) in
         let r = ih (s .0) (s .2) in
         (ap length (s .1) ∙ ap suc (r .0), subst (Over a) (sym (s .1)) (t .1, r .1))
 
-pub words-complete : (a : ℕ) (w : List ℕ) → Over a w → Member w (wordsOf a (length w))
+pub words-complete : (a : ℕ) (w : List ℕ) → Over a w → Member w (wordsOfLength a (length w))
 words-complete a [] ow = inl refl
-words-complete a (l ∷ w) ow = mem-join (l ∷ w) a (λ k. map (λ u. k ∷ u) (wordsOf a (length w))) l (ow .0) (mem-cons l w (wordsOf a (length w)) (words-complete a w (ow .1)))
+words-complete a (l ∷ w) ow = mem-join (l ∷ w) a (λ k. map (λ u. k ∷ u) (wordsOfLength a (length w))) l (ow .0) (mem-cons l w (wordsOfLength a (length w)) (words-complete a w (ow .1)))
 
-pub words-sorted : (a n : ℕ) → Sorted (wordsOf a n)
+pub words-sorted : (a n : ℕ) → Sorted (wordsOfLength a n)
 words-sorted a zero = (λ u m. absurd m, tt)
-words-sorted a (suc n) = sorted-join a (λ l. map (λ w. l ∷ w) (wordsOf a n)) (λ l p. sorted-cons l (wordsOf a n) (words-sorted a n)) across
+words-sorted a (suc n) = sorted-join a (λ l. map (λ w. l ∷ w) (wordsOfLength a n)) (λ l p. sorted-cons l (wordsOfLength a n) (words-sorted a n)) across
   where
-    across : (i j : ℕ) → i < j → (u v : List ℕ) → Member u (map (λ w. i ∷ w) (wordsOf a n)) → Member v (map (λ w. j ∷ w) (wordsOf a n)) → Shortlex u v
+    across : (i j : ℕ) → i < j → (u v : List ℕ) → Member u (map (λ w. i ∷ w) (wordsOfLength a n)) → Member v (map (λ w. j ∷ w) (wordsOfLength a n)) → Shortlex u v
     across i j h u v m k =
-        let s = mem-cons-cases i u (wordsOf a n) m in
-        let t = mem-cons-cases j v (wordsOf a n) k in
+        let s = mem-cons-cases i u (wordsOfLength a n) m in
+        let t = mem-cons-cases j v (wordsOfLength a n) k in
         rw (s .1, t .1) (inr (ap suc (words-sound a n (s .0) (s .2) .0 ∙ sym (words-sound a n (t .0) (t .2) .0)), inl h))
 
 pub below-sound : (a n : ℕ) (w : List ℕ) → Member w (wordsBelow a n) → (length w < n) × Over a w
-below-sound a n w m = let t = mem-join-cases w n (wordsOf a) m in let s = words-sound a (t .0) w (t .2) in (omega (arith, t .1, s .0), s .1)
+below-sound a n w m = let t = mem-join-cases w n (wordsOfLength a) m in let s = words-sound a (t .0) w (t .2) in (omega (arith, t .1, s .0), s .1)
 
 pub below-complete : (a n : ℕ) (w : List ℕ) → length w < n → Over a w → Member w (wordsBelow a n)
-below-complete a n w h ow = mem-join w n (wordsOf a) (length w) h (words-complete a w ow)
+below-complete a n w h ow = mem-join w n (wordsOfLength a) (length w) h (words-complete a w ow)
 
 pub below-sorted : (a n : ℕ) → Sorted (wordsBelow a n)
-below-sorted a n = sorted-join n (wordsOf a) (λ i p. words-sorted a i) (λ i j h u v m k. inl (omega (arith, words-sound a i u m .0, words-sound a j v k .0)))
+below-sorted a n = sorted-join n (wordsOfLength a) (λ i p. words-sorted a i) (λ i j h u v m k. inl (omega (arith, words-sound a i u m .0, words-sound a j v k .0)))
 
 -- ---- tests over a list
 

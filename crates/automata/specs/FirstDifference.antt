@@ -1,6 +1,6 @@
 -- The first difference of two languages: the first word, in shortlex order, that just one of them has.
 --   FirstDifference a L K w    w is the first difference, over all words over a letters
---   Compared a L K             what a comparison may answer: nothing when the languages are the same, else their first difference
+--   IsDifference a L K x       what a comparison may answer: nothing when the languages are the same, else their first difference
 --   firstDifference a A B      that answer as a function, by a search bounded by the states of A and B together
 use mathlib.Core.Path.{_≡_}
 use mathlib.Core.Bool.{true}
@@ -18,9 +18,9 @@ pub record FirstDifference (a : ℕ) (L K : Language) (w : List ℕ) : Type 0 wh
   pub differs : L w ⊕ K w ≡ true
   pub first : (u : List ℕ) → Over a u → Shortlex u w → L u ≡ K u
 
-abbrev pub Compared : ℕ → Language → Language → Option (List ℕ) → Type 0
-Compared a L K none = Same a L K
-Compared a L K (some w) = FirstDifference a L K w
+abbrev pub IsDifference : ℕ → Language → Language → Option (List ℕ) → Type 0
+IsDifference a L K none = Same a L K
+IsDifference a L K (some w) = FirstDifference a L K w
 
 unfoldable pub firstDifference : ℕ → Automaton → Automaton → Option (List ℕ)
 firstDifference a A B = firstOf (λ w. accepts A w ⊕ accepts B w) (wordsBelow a (A .states + B .states))

@@ -45,8 +45,8 @@ unfoldable pub basisWords : ℕ → ℕ → Language → List (List ℕ)
 basisWords a n L = greedy a n L [] (wordsBelow a (suc n))
 
 -- The automaton on the words bs: one state for each.
-abbrev pub automatonOf : ℕ → ℕ → Language → List (List ℕ) → Automaton
-automatonOf a n L bs = record {
+abbrev pub automatonOn : ℕ → ℕ → Language → List (List ℕ) → Automaton
+automatonOn a n L bs = record {
   states = length bs;
   initial = λ k. eqb k 0;
   final = λ k. L (getD bs k []);
@@ -54,7 +54,7 @@ automatonOf a n L bs = record {
 }
 
 unfoldable pub minimalOf : ℕ → Automaton → Automaton
-minimalOf a A = automatonOf a (A .states) (accepts A) (basisWords a (A .states) (accepts A))
+minimalOf a A = automatonOn a (A .states) (accepts A) (basisWords a (A .states) (accepts A))
 
 unfoldable pub dimensionOf : ℕ → Automaton → ℕ
 dimensionOf a A = length (basisWords a (A .states) (accepts A))

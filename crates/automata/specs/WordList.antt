@@ -13,13 +13,13 @@ joinBelow zero f = []
 joinBelow (suc k) f = joinBelow k f ++ f k
 
 -- The words of length n over a letters.
-abbrev pub wordsOf : ℕ → ℕ → List (List ℕ)
-wordsOf a zero = [] ∷ []
-wordsOf a (suc n) = joinBelow a (λ l. map (λ w. l ∷ w) (wordsOf a n))
+abbrev pub wordsOfLength : ℕ → ℕ → List (List ℕ)
+wordsOfLength a zero = [] ∷ []
+wordsOfLength a (suc n) = joinBelow a (λ l. map (λ w. l ∷ w) (wordsOfLength a n))
 
 -- The words shorter than n over a letters.
 abbrev pub wordsBelow : ℕ → ℕ → List (List ℕ)
-wordsBelow a n = joinBelow n (wordsOf a)
+wordsBelow a n = joinBelow n (wordsOfLength a)
 
 -- Whether f holds at every word of a list.
 abbrev pub allOf : (List ℕ → Bool) → List (List ℕ) → Bool

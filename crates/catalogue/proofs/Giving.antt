@@ -1,23 +1,19 @@
 -- The service case by case, and what holds of the bytes that it wrote: they are the entry's record.
-use mathlib.Core.Path.{_≡_, sym, subst, _∙_}
+use mathlib.Core.Path.{_≡_, sym, ap, subst, _∙_}
 use mathlib.Core.List.{List}
 use Prim.Native.Nat.{ℕ, _≤_, _<_}
 use native.Mathlib.Decide.{decLe}
 use native.Mathlib.Omega.{arith}
-use lib.ListN.{take}
+use lib.ListN.{length, take}
 use borrow.Author.Tests.{lt-ltb, le-ltb}
-use Rattle.automata.specs.Automaton.{accepts}
-use Rattle.automata.specs.Language.{Same}
-use Rattle.automata.specs.Dimension.{IsDimension}
-use Rattle.automata.specs.MinimalOf.{minimalOf}
 use Rattle.record.specs.declared.Written.{Written}
 use Rattle.record.specs.declared.Written.the-variants.{Done, Refused}
-use Rattle.record.specs.Record.{statesOf, WellFormed, automatonOf, encode}
-use Rattle.record.specs.Outcome.{refused, fit, answerOf, bufferOf}
+use Rattle.record.specs.Claims.{MinimalRecord}
+use Rattle.record.specs.Outcome.{refused, fit, answerOf, bufferOf, answerIn, bufferIn}
 use Rattle.record.proofs.Outcome.{fit-bytes}
-use Rattle.catalogue.specs.Words.{wordsOf}
-use Rattle.catalogue.specs.Entries.{last, lettersAt, recordOf, catalogueOf, Given}
-use Rattle.catalogue.proofs.Records.{record-formed, record-words, record-dimension, record-minimal}
+use Rattle.catalogue.specs.Words.{entryWords}
+use Rattle.catalogue.specs.Entries.{last, lettersAt, recordOf, catalogueOf, GivesEntry}
+use Rattle.catalogue.proofs.Records.{record-claims}
 
 -- ---- the cases
 
@@ -45,22 +41,12 @@ given-bytes number room n buf e = go (decLe number last)
 
 -- ---- the promises
 
-module _ (number room : ℕ) (buf out : List ℕ) (r : Written) (answer : r ≡ answerOf (catalogueOf number room)) (buffer : out ≡ bufferOf (catalogueOf number room) buf) where
-  -- What holds of the entry's record holds of the bytes written.
-  given : (P : List ℕ → Type 0) → (number ≤ last → P (recordOf number)) → Given r out P
-  given P p n e =
-      let b = given-bytes number room n buf (sym answer ∙ e) in
-      rw buffer (subst P (sym (b .1)) (p (b .0)))
-
-  pub promises : (r ≡ answerOf (catalogueOf number room))
-      × ((out ≡ bufferOf (catalogueOf number room) buf)
-      × (Given r out WellFormed
-      × (Given r out (λ bs. Same (lettersAt number) (wordsOf number) (accepts (automatonOf bs)))
-      × (Given r out (λ bs. IsDimension (lettersAt number) (wordsOf number) (statesOf bs))
-      × Given r out (λ bs. encode (lettersAt number) (minimalOf (lettersAt number) (automatonOf bs)) ≡ bs)))))
-  promises =
-      let formed = given WellFormed (record-formed number) in
-      let words = given (λ bs. Same (lettersAt number) (wordsOf number) (accepts (automatonOf bs))) (record-words number) in
-      let dimension = given (λ bs. IsDimension (lettersAt number) (wordsOf number) (statesOf bs)) (record-dimension number) in
-      let minimal = given (λ bs. encode (lettersAt number) (minimalOf (lettersAt number) (automatonOf bs)) ≡ bs) (record-minimal number) in
-      (answer, (buffer, (formed, (words, (dimension, minimal)))))
+module _ (number : ℕ) (buf out : List ℕ) (r : Written) (answer : r ≡ answerIn (catalogueOf number) buf) (buffer : out ≡ bufferIn (catalogueOf number) buf) where
+  -- What is claimed of the entry's record is claimed of the bytes written.
+  pub promises : (r ≡ answerIn (catalogueOf number) buf) × ((out ≡ bufferIn (catalogueOf number) buf) × GivesEntry number out r)
+  promises = (answer, (buffer, claims))
+    where
+      claims : GivesEntry number out r
+      claims n e =
+          let b = given-bytes number (length buf) n buf (sym answer ∙ e) in
+          subst (MinimalRecord (lettersAt number) (entryWords number)) (sym (ap (take n) buffer ∙ b .1)) (record-claims number (b .0))

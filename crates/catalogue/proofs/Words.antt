@@ -14,7 +14,7 @@ use Rattle.automata.specs.Dimension.{quotients}
 use Rattle.automata.specs.Row.{acceptsFrom}
 use Rattle.automata.proofs.Xor.{xor-false, xor-and, xor-cong}
 use Rattle.automata.proofs.Acceptance.{from-nil, from-cons, accepts-row}
-use Rattle.catalogue.specs.Words.{endsInOne, firstRun, laterRuns, allowed, allAllowed, languageX, listed, lengthBySeven, wordsOf}
+use Rattle.catalogue.specs.Words.{endsInOne, firstRun, laterRuns, allowed, allAllowed, languageX, listed, lengthBySeven, entryWords}
 use Rattle.catalogue.specs.Entries.{last, lettersAt, entryOf, basisAt}
 use Rattle.catalogue.proofs.Table.{valuesBelow, each, All, all-at, six}
 
@@ -75,17 +75,17 @@ seven-zeros v = listed-next (length v) ∙ ap (λ b. b ⊕ lengthBySeven (0 ∷ 
 -- ---- the six entries
 
 abbrev RowRight : ℕ → ℕ → ℕ → Type 0
-RowRight j l k = Taken (wordsOf j) (λ v. wordsOf j (getD (basisAt j) k [] ++ (l ∷ v))) (basisAt j) (entryOf j .step l k)
+RowRight j l k = Taken (entryWords j) (λ v. entryWords j (getD (basisAt j) k [] ++ (l ∷ v))) (basisAt j) (entryOf j .step l k)
 
 abbrev RowsRight : ℕ → Type 0
 RowsRight j = All 0 (lettersAt j) (λ l. All 0 (length (basisAt j)) (RowRight j l))
 
 abbrev StartRight : ℕ → Type 0
-StartRight j = Taken (wordsOf j) (wordsOf j) (basisAt j) (entryOf j .initial)
+StartRight j = Taken (entryWords j) (entryWords j) (basisAt j) (entryOf j .initial)
 
 -- For each letter and state.
 rows-right : (j : ℕ) → j < 6 → RowsRight j
-unfolding lettersAt entryOf basisAt wordsOf
+unfolding lettersAt entryOf basisAt entryWords
 rows-right =
     six RowsRight
     (tt, (tt, tt))
@@ -96,7 +96,7 @@ rows-right =
     ((λ v. sym (xor-false (lengthBySeven (0 ∷ v))), (λ v. refl, (seven-zeros, tt))), tt)
 
 starts-right : (j : ℕ) → j < 6 → StartRight j
-unfolding entryOf basisAt wordsOf
+unfolding entryOf basisAt entryWords
 starts-right =
     six StartRight
     (λ v. refl)
@@ -113,16 +113,16 @@ module _ (j : ℕ) (h : j ≤ last) where
   entry-size = each 6 (λ j. entryOf j .states) (λ j. length (basisAt j)) refl j (omega arith)
 
   -- The final states are those whose basis word is in the language.
-  entry-ends : (k : ℕ) → k < length (basisAt j) → entryOf j .final k ≡ wordsOf j (getD (basisAt j) k [])
-  unfolding entryOf basisAt wordsOf
+  entry-ends : (k : ℕ) → k < length (basisAt j) → entryOf j .final k ≡ entryWords j (getD (basisAt j) k [])
+  unfolding entryOf basisAt entryWords
   entry-ends =
-      each (length (basisAt j)) (entryOf j .final) (λ k. wordsOf j (getD (basisAt j) k []))
-      (each 6 (λ j. valuesBelow (length (basisAt j)) (entryOf j .final)) (λ j. valuesBelow (length (basisAt j)) (λ k. wordsOf j (getD (basisAt j) k []))) refl j (omega arith))
+      each (length (basisAt j)) (entryOf j .final) (λ k. entryWords j (getD (basisAt j) k []))
+      (each 6 (λ j. valuesBelow (length (basisAt j)) (entryOf j .final)) (λ j. valuesBelow (length (basisAt j)) (λ k. entryWords j (getD (basisAt j) k []))) refl j (omega arith))
 
   entry-rows : (l k : ℕ) → l < lettersAt j → k < length (basisAt j) → RowRight j l k
   entry-rows l k hl hk =
       all-at (RowRight j l) (length (basisAt j))
       (all-at (λ l. All 0 (length (basisAt j)) (RowRight j l)) (lettersAt j) (rows-right j (omega arith)) l hl) k hk
 
-  pub entry-words : Same (lettersAt j) (wordsOf j) (accepts (entryOf j))
-  entry-words = words (lettersAt j) (wordsOf j) (entryOf j) (basisAt j) entry-size entry-ends entry-rows (starts-right j (omega arith))
+  pub entry-words : Same (lettersAt j) (entryWords j) (accepts (entryOf j))
+  entry-words = words (lettersAt j) (entryWords j) (entryOf j) (basisAt j) entry-size entry-ends entry-rows (starts-right j (omega arith))

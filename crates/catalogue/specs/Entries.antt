@@ -5,7 +5,7 @@
 --   basisAt j             its basis words
 --   recordOf j            its record
 --   catalogueOf j room    what the service does with a buffer of so many bytes: row 13, then 12, else the record
---   Given r out P         where the answer r is a number of bytes, P holds of that many bytes of the buffer
+--   GivesEntry j exit r   what is claimed of the answer r and the buffer at exit, over all words and all automata
 use mathlib.Core.Path.{_≡_}
 use mathlib.Core.Bool.{cond}
 use mathlib.Core.List.{List, [], _∷_}
@@ -15,9 +15,11 @@ use lib.ListN.{getD, take}
 use Rattle.automata.specs.Automaton.{Automaton}
 use Rattle.automata.specs.Mask.{bitOf}
 use Rattle.record.specs.Record.{encode}
+use Rattle.record.specs.Claims.{MinimalRecord}
 use Rattle.record.specs.declared.Written.{Written}
 use Rattle.record.specs.declared.Written.the-variants.{Done}
 use Rattle.record.specs.Outcome.{Outcome, refused, fit}
+use Rattle.catalogue.specs.Words.{entryWords}
 
 abbrev pub last : ℕ
 last = 5
@@ -66,5 +68,6 @@ recordOf j = encode (lettersAt j) (entryOf j)
 unfoldable pub catalogueOf : ℕ → ℕ → Outcome
 catalogueOf number room = cond (ltb last number) (refused 13 0 number) (fit room (recordOf number))
 
-abbrev pub Given : Written → List ℕ → (List ℕ → Type 0) → Type 0
-Given r out P = (n : ℕ) → r ≡ Done n → P (take n out)
+-- Where the answer grants, the bytes written are the minimal record of the entry's words.
+abbrev pub GivesEntry : ℕ → List ℕ → Written → Type 0
+GivesEntry j exit r = (n : ℕ) → r ≡ Done n → MinimalRecord (lettersAt j) (entryWords j) (take n exit)

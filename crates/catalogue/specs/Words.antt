@@ -8,7 +8,7 @@
 --   runs w           the lengths of all runs of letter 0; where no 0 stands before, between or after other letters, the length is 0
 --   languageX        4: the words no run of which has a length that leaves 2 on division by 3
 --   lengthBySeven    5: the words whose length leaves 0, 1, 2 or 4 on division by 7
---   wordsOf j        the words of entry j
+--   entryWords j     the words of entry j
 use mathlib.Core.Bool.{Bool, true, false, not, _&&_, _||_}
 use mathlib.Core.List.{List, [], _∷_}
 use Prim.Native.Nat.{ℕ, zero, suc, _%_}
@@ -65,5 +65,5 @@ lengthBySeven w = listed (length w % 7)
 abbrev pub languages : List Language
 languages = noWord ∷ everyWord ∷ onlyEmpty ∷ endsInOne ∷ languageX ∷ lengthBySeven ∷ []
 
-unfoldable pub wordsOf : ℕ → Language
-wordsOf j = getD languages j noWord
+unfoldable pub entryWords : ℕ → Language
+entryWords j = getD languages j noWord

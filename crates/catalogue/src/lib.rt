@@ -2,16 +2,11 @@
 ghost use mathlib.Core.Path.{_≡_};
 ghost use Prim.Native.Nat.{_<_, _≤_};
 ghost use lib.ListN.{length};
-ghost use Rattle.automata.specs.Automaton.{accepts};
-ghost use Rattle.automata.specs.Language.{Same};
-ghost use Rattle.automata.specs.Dimension.{IsDimension};
-ghost use Rattle.automata.specs.MinimalOf.{minimalOf};
 ghost use Rattle.rows.specs.Table.{size as tableSize};
-ghost use Rattle.record.specs.Record.{statesOf, lettersOf, WellFormed, automatonOf, encode};
-ghost use Rattle.record.specs.Outcome.{answerOf, bufferOf};
-ghost use Rattle.record.specs.Held.{Filled, Holds};
-ghost use Rattle.catalogue.specs.Words.{wordsOf};
-ghost use Rattle.catalogue.specs.Entries.{last, lettersAt, recordOf, catalogueOf, Given};
+ghost use Rattle.record.specs.Record.{statesOf, lettersOf};
+ghost use Rattle.record.specs.Outcome.{answerIn, bufferIn};
+ghost use Rattle.record.specs.Held.{HeldUpTo, Holds};
+ghost use Rattle.catalogue.specs.Entries.{last, recordOf, catalogueOf, GivesEntry};
 use record::Written;
 use rows::Machine;
 use rows::Table;
@@ -35,8 +30,8 @@ const FIRST: [usize; 6] = [0, 0, 2, 4, 8, 12];
 
 // The rows of letter l, into block l.
 fn load_block(j: usize, l: usize, t: &mut Table)
-    requires { ⌜ (j ≤ last) × (l < lettersOf (recordOf j)) × Filled (recordOf j) (now t) l 0 ⌝ }
-    ensures { λ _. ⌜ Filled (recordOf j) (now (t .exit)) l (statesOf (recordOf j)) ⌝ }
+    requires { ⌜ (j ≤ last) × (l < lettersOf (recordOf j)) × HeldUpTo (recordOf j) (now t) l 0 ⌝ }
+    ensures { λ _. ⌜ HeldUpTo (recordOf j) (now (t .exit)) l (statesOf (recordOf j)) ⌝ }
 {
     let n = STATES[j];
     let first = FIRST[j] + l * n;
@@ -66,15 +61,11 @@ fn load(j: usize, t: &mut Table) -> Machine
     }
 }
 
-// The record of an entry into a lent buffer, or refusal 13 or 12. What is written is well formed, accepts the entry's words,
-// has as many states as their dimension, and is its own minimal record.
+// The record of an entry into a lent buffer, or refusal 13 or 12. `claims`: what is written is the minimal record of the entry's words.
 pub fn give(number: usize, out: &mut [u8]) -> Written
-    ensures answer { λ r. ⌜ r ≡ answerOf (catalogueOf number (length (now (out .entry)))) ⌝ }
-    ensures buffer { λ _. ⌜ now (out .exit) ≡ bufferOf (catalogueOf number (length (now (out .entry)))) (now (out .entry)) ⌝ }
-    ensures formed { λ r. ⌜ Given r (now (out .exit)) WellFormed ⌝ }
-    ensures words { λ r. ⌜ Given r (now (out .exit)) (λ bs. Same (lettersAt number) (wordsOf number) (accepts (automatonOf bs))) ⌝ }
-    ensures dimension { λ r. ⌜ Given r (now (out .exit)) (λ bs. IsDimension (lettersAt number) (wordsOf number) (statesOf bs)) ⌝ }
-    ensures minimal { λ r. ⌜ Given r (now (out .exit)) (λ bs. encode (lettersAt number) (minimalOf (lettersAt number) (automatonOf bs)) ≡ bs) ⌝ }
+    ensures answer { λ r. ⌜ r ≡ answerIn (catalogueOf number) (now (out .entry)) ⌝ }
+    ensures buffer { λ _. ⌜ now (out .exit) ≡ bufferIn (catalogueOf number) (now (out .entry)) ⌝ }
+    ensures claims { λ r. ⌜ GivesEntry number (now (out .exit)) r ⌝ }
 {
     if LAST < number {
         return Written::Refused {

@@ -13,7 +13,7 @@ ghost use Rattle.rows.specs.Machine.{automatonIn, Valid};
 ghost use Rattle.record.specs.Bytes.{bytesOf, allBytes};
 ghost use Rattle.record.specs.Record.{maxStates, maxLetters, rowBytes, header, rowsAt, statesOf, lettersOf, lengthOf, WellFormed, headOf, encode};
 ghost use Rattle.record.specs.Outcome.{fit, answerOf, bufferOf, rewriteOf};
-ghost use Rattle.record.specs.Held.{Filled, Holds};
+ghost use Rattle.record.specs.Held.{HeldUpTo, Holds};
 use record::Checked;
 use record::FINAL_AT;
 use record::INITIAL_AT;
@@ -27,8 +27,8 @@ use rows::Table;
 
 // The rows of letter l, into block l.
 fn read_block(bytes: &[u8], l: usize, t: &mut Table)
-    requires { ⌜ WellFormed (now bytes) × (l < lettersOf (now bytes)) × Filled (now bytes) (now t) l 0 ⌝ }
-    ensures { λ _. ⌜ Filled (now (bytes .entry)) (now (t .exit)) l (statesOf (now (bytes .entry))) ⌝ }
+    requires { ⌜ WellFormed (now bytes) × (l < lettersOf (now bytes)) × HeldUpTo (now bytes) (now t) l 0 ⌝ }
+    ensures { λ _. ⌜ HeldUpTo (now (bytes .entry)) (now (t .exit)) l (statesOf (now (bytes .entry))) ⌝ }
 {
     let n = record::size(bytes[5]);
     let first = l * n;

@@ -1,1 +1,3 @@
+-- Laws that belong to no one function.
 pub mod CompareLaws
+pub mod Claims

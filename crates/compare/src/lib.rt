@@ -1,16 +1,9 @@
 // The comparison of two records: from bytes to the first word that just one accepts.
 ghost use mathlib.Core.Path.{_≡_};
-ghost use mathlib.Core.Bool.{true};
-ghost use mathlib.Core.List.{List};
-ghost use Prim.Native.Nat.{ℕ, _+_, _<_};
-ghost use lib.ListN.{length, take};
-ghost use Rattle.automata.specs.Language.{Same};
-ghost use Rattle.automata.specs.Dimension.{IsDimension};
-ghost use Rattle.automata.specs.FirstDifference.{FirstDifference};
-ghost use Rattle.record.specs.Record.{lettersOf, WellFormed, automatonOf, languageOf};
-ghost use Rattle.record.specs.Outcome.{bufferOf};
+ghost use lib.ListN.{length};
+ghost use Rattle.record.specs.Outcome.{bufferIn};
 ghost use Rattle.operands.specs.Operands.{pairOf};
-ghost use Rattle.compare.specs.Compare.{differenceOf, compareOutcome, sideOf, acceptorOf, refusedAs, comparedAs};
+ghost use Rattle.compare.specs.Compare.{compareOutcome, compareAnswer, sideOf, comparedRefusal, Compares};
 use operands::Pair;
 use verdict::Verdict;
 
@@ -36,7 +29,7 @@ pub enum Compared {
 
 // A refusal of the checks, as the answer of a comparison.
 fn refuse(p: Pair) -> Compared
-    ensures { λ r. ⌜ r ≡ refusedAs p ⌝ }
+    ensures { λ r. ⌜ r ≡ comparedRefusal p ⌝ }
 {
     match p {
         Pair::Both => Compared::Same,
@@ -62,8 +55,8 @@ fn named_side(first: bool) -> Side
 // The answer for two well-formed records over the same letters; the word goes to the buffer.
 fn settle(first: &[u8], second: &[u8], word: &mut [u8]) -> Compared
     requires { ⌜ pairOf (now first) (now second) ≡ Pair.Both ⌝ }
-    ensures answer { λ r. ⌜ r ≡ comparedAs (differenceOf (now (first .entry)) (now (second .entry))) (automatonOf (now (first .entry))) (compareOutcome (now (first .entry)) (now (second .entry)) (length (now (word .entry)))) ⌝ }
-    ensures buffer { λ _. ⌜ now (word .exit) ≡ bufferOf (compareOutcome (now (first .entry)) (now (second .entry)) (length (now (word .entry)))) (now (word .entry)) ⌝ }
+    ensures answer { λ r. ⌜ r ≡ compareAnswer (now (first .entry)) (now (second .entry)) (length (now (word .entry))) ⌝ }
+    ensures buffer { λ _. ⌜ now (word .exit) ≡ bufferIn (compareOutcome (now (first .entry)) (now (second .entry))) (now (word .entry)) ⌝ }
 {
     let mut w = [0u8; 128];
     let v = comparison::compare(&*first, &*second, &mut w);
@@ -88,17 +81,14 @@ fn settle(first: &[u8], second: &[u8], word: &mut [u8]) -> Compared
     Compared::Differs { length: n, side: s }
 }
 
-// Compares two records and writes the first word that just one accepts. For two well-formed records over the same letters:
-// `same`: Same comes exactly when every word over the letters, of any length, is accepted by both or by neither.
-// `first`: otherwise the word is the first such word in shortlex order, the side named accepts it, and it has fewer letters than the
-// two dimensions added.
-// `withheld`: refusal 12 comes exactly where the languages differ and the buffer is shorter than that word, its place the word's length.
+// Compares two records and writes the first word that just one accepts. `claims`: for two well-formed records over the same letters, Same
+// comes exactly when every word over the letters, of any length, is accepted by both or by neither. Otherwise the word is the first such
+// word in shortlex order, the side named accepts it, and it has at most 63 letters and fewer than the two dimensions added. Refusal 12
+// comes exactly where the languages differ and the buffer is shorter than that word, its place the word's length.
 pub fn compare(first: &[u8], second: &[u8], word: &mut [u8]) -> Compared
-    ensures answer { λ r. ⌜ r ≡ comparedAs (differenceOf (now (first .entry)) (now (second .entry))) (automatonOf (now (first .entry))) (compareOutcome (now (first .entry)) (now (second .entry)) (length (now (word .entry)))) ⌝ }
-    ensures buffer { λ _. ⌜ now (word .exit) ≡ bufferOf (compareOutcome (now (first .entry)) (now (second .entry)) (length (now (word .entry)))) (now (word .entry)) ⌝ }
-    ensures same { λ r. ⌜ (WellFormed (now (first .entry)) → WellFormed (now (second .entry)) → lettersOf (now (first .entry)) ≡ lettersOf (now (second .entry)) → (r ≡ Compared.Same → Same (lettersOf (now (first .entry))) (languageOf (now (first .entry))) (languageOf (now (second .entry)))) × (Same (lettersOf (now (first .entry))) (languageOf (now (first .entry))) (languageOf (now (second .entry))) → r ≡ Compared.Same)) ⌝ }
-    ensures first { λ r. ⌜ ((n : ℕ) (s : Side) → r ≡ Compared.Differs n s → FirstDifference (lettersOf (now (first .entry))) (languageOf (now (first .entry))) (languageOf (now (second .entry))) (take n (now (word .exit))) × (languageOf (acceptorOf s (now (first .entry)) (now (second .entry))) (take n (now (word .exit))) ≡ true) × ((d e : ℕ) → IsDimension (lettersOf (now (first .entry))) (languageOf (now (first .entry))) d → IsDimension (lettersOf (now (first .entry))) (languageOf (now (second .entry))) e → n < d + e)) ⌝ }
-    ensures withheld { λ r. ⌜ (WellFormed (now (first .entry)) → WellFormed (now (second .entry)) → lettersOf (now (first .entry)) ≡ lettersOf (now (second .entry)) → (w : List ℕ) → FirstDifference (lettersOf (now (first .entry))) (languageOf (now (first .entry))) (languageOf (now (second .entry))) w → (length (now (word .entry)) < length w → r ≡ Compared.Refused 12 0 (length w)) × ((k : ℕ) → r ≡ Compared.Refused 12 0 k → (k ≡ length w) × (length (now (word .entry)) < length w))) ⌝ }
+    ensures answer { λ r. ⌜ r ≡ compareAnswer (now (first .entry)) (now (second .entry)) (length (now (word .entry))) ⌝ }
+    ensures buffer { λ _. ⌜ now (word .exit) ≡ bufferIn (compareOutcome (now (first .entry)) (now (second .entry))) (now (word .entry)) ⌝ }
+    ensures claims { λ r. ⌜ Compares (now (first .entry)) (now (second .entry)) (now (word .entry)) (now (word .exit)) r ⌝ }
 {
     // Borrowed anew, a slice is handed on as a pointer and a length; as it came it would be copied whole, right after it was stored in two.
     let p = operands::check_pair(&*first, &*second);

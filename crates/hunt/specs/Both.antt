@@ -15,8 +15,8 @@ abbrev pub besideOf : List ℕ → List ℕ → ℕ → ℕ → ℕ
 besideOf bs cs = beside (rowAt bs) (rowAt cs) (statesOf bs)
 
 -- A field of the first beside the same field of the second, at offset p of each.
-abbrev pub pairOf : List ℕ → List ℕ → ℕ → ℕ
-pairOf bs cs p = bitXor (number rowBytes bs p) (number rowBytes cs p * 2 ^ statesOf bs)
+abbrev pub fieldBeside : List ℕ → List ℕ → ℕ → ℕ
+fieldBeside bs cs p = bitXor (number rowBytes bs p) (number rowBytes cs p * 2 ^ statesOf bs)
 
 pub record Paired (bs cs : List ℕ) (m : Machine) : Type 0 where
   pub first : WellFormed bs
@@ -24,5 +24,5 @@ pub record Paired (bs cs : List ℕ) (m : Machine) : Type 0 where
   pub same : lettersOf bs ≡ lettersOf cs
   pub states : m .states ≡ statesOf bs + statesOf cs
   pub letters : m .letters ≡ lettersOf bs
-  pub initial : mask (m .initial) ≡ pairOf bs cs initialAt
-  pub finals : mask (m .finals) ≡ pairOf bs cs finalAt
+  pub initial : mask (m .initial) ≡ fieldBeside bs cs initialAt
+  pub finals : mask (m .finals) ≡ fieldBeside bs cs finalAt

@@ -1,5 +1,5 @@
 -- The outcome of the meet, case by case, and its claims over all words.
-use mathlib.Core.Path.{_≡_, refl, sym, ap, ap₂, _∙_}
+use mathlib.Core.Path.{_≡_, refl, sym, ap, ap₂, subst, _∙_}
 use mathlib.Core.Bool.{_&&_}
 use mathlib.Core.List.{List}
 use Prim.Native.Nat.{ℕ, _*_, _<_, _≤_}
@@ -8,6 +8,7 @@ use native.Mathlib.Omega.{arith}
 use lib.ListN.{length}
 use Rattle.automata.specs.Automaton.{accepts}
 use Rattle.automata.specs.Language.{Same, intersection}
+use Rattle.automata.specs.Dimension.{IsDimension}
 use Rattle.automata.specs.MinimalOf.{minimalOf, dimensionOf}
 use Rattle.automata.specs.Operations.{meetOf}
 use Rattle.automata.proofs.Operations.{accepts-meet}
@@ -19,18 +20,18 @@ use Rattle.rows.specs.Row.{mask}
 use Rattle.rows.specs.Machine.{automatonIn}
 use Rattle.rows.proofs.BesideLaws.{if-low, if-high}
 use Rattle.minimisation.specs.Minimises.{Minimises}
-use Rattle.record.specs.Record.{lettersOf, automatonOf}
-use Rattle.record.specs.Outcome.{Outcome, refused, wrote, answerOf}
+use Rattle.record.specs.Record.{lettersOf, automatonOf, languageOf}
+use Rattle.record.specs.Outcome.{Outcome, refused, wrote, answerOf, answerIn, bufferIn}
 use Rattle.record.specs.declared.Written.{Written}
 use Rattle.record.specs.declared.Written.the-variants.{Refused}
-use Rattle.operands.specs.Operands.{pairOf}
+use Rattle.operands.specs.Operands.{pairOf, Operands}
 use Rattle.operands.specs.declared.Pair.the-variants.{Refused as Bad}
-use Rattle.results.specs.Results.{resultOf, Operands, Limits}
+use Rattle.results.specs.Results.{resultOf, Limits}
 use Rattle.results.specs.Built.{Built}
-use Rattle.results.proofs.ResultLaws.{result-number, limits-of, Service, service-of}
+use Rattle.results.proofs.ResultLaws.{result-number, limits-of, Promises, Service, service-of}
 use Rattle.results.proofs.Passed.{sizes, pair-wrote, pair-refused, pair-passed}
 use Rattle.results.proofs.BuiltLaws.{built-same}
-use Rattle.intersection.specs.Meet.{maxProduct, crossing, meetOutcome, DimensionProduct, Small}
+use Rattle.intersection.specs.Meet.{maxProduct, crossing, meetOutcome, DimensionProduct, Small, Meets}
 
 -- What a minimal automaton in a table accepts.
 minimised-words : (a : ℕ) (bs t : List ℕ) (m : Machine) → Minimises a (automatonOf bs) t (m .states) (mask (m .initial)) (mask (m .finals)) → Same a (accepts (automatonOf bs)) (accepts (automatonIn t m))
@@ -71,20 +72,34 @@ module _ (bs cs : List ℕ) where
 
   -- ---- the claims
 
-  dimensions : DimensionProduct (lettersOf bs) (accepts (automatonOf bs)) (accepts (automatonOf cs)) product
-  dimensions = record {
-    first = dimensionOf (lettersOf bs) (automatonOf bs);
-    second = dimensionOf (lettersOf bs) (automatonOf cs);
-    one = dimension-of (lettersOf bs) (automatonOf bs);
-    two = dimension-of (lettersOf bs) (automatonOf cs);
-    product = refl;
-  }
+  module _ (p : Operands bs cs) where
+    dimensions : DimensionProduct bs cs product
+    dimensions = record {
+      first = dimensionOf (lettersOf bs) (automatonOf bs);
+      second = dimensionOf (lettersOf bs) (automatonOf cs);
+      one = dimension-of (lettersOf bs) (automatonOf bs);
+      two = subst (λ a. IsDimension a (languageOf cs) (dimensionOf (lettersOf bs) (automatonOf cs))) (p .2) (dimension-of (lettersOf bs) (automatonOf cs));
+      product = refl;
+    }
 
-  unique : (p : ℕ) → DimensionProduct (lettersOf bs) (accepts (automatonOf bs)) (accepts (automatonOf cs)) p → p ≡ product
-  unique p D =
-      D .product
-      ∙ ap₂ _*_ (dimension-unique (lettersOf bs) (accepts (automatonOf bs)) (D .first) (dimensionOf (lettersOf bs) (automatonOf bs)) (D .one) (dimension-of (lettersOf bs) (automatonOf bs)))
-      (dimension-unique (lettersOf bs) (accepts (automatonOf cs)) (D .second) (dimensionOf (lettersOf bs) (automatonOf cs)) (D .two) (dimension-of (lettersOf bs) (automatonOf cs)))
+    unique : (k : ℕ) → DimensionProduct bs cs k → k ≡ product
+    unique k D =
+        let two = subst (λ a. IsDimension a (languageOf cs) (D .second)) (sym (p .2)) (D .two) in
+        D .product
+        ∙ ap₂ _*_ (dimension-unique (lettersOf bs) (languageOf bs) (D .first) (dimensionOf (lettersOf bs) (automatonOf bs)) (D .one) (dimension-of (lettersOf bs) (automatonOf bs)))
+        (dimension-unique (lettersOf bs) (languageOf cs) (D .second) (dimensionOf (lettersOf bs) (automatonOf cs)) two (dimension-of (lettersOf bs) (automatonOf cs)))
+
+    -- A product of dimensions within the limit.
+    pub within : (d : ℕ) → d ≡ product → d ≤ maxProduct → Small bs cs
+    within d e h k D = omega (arith, unique k D)
+
+    -- Past row 10 the product is not over the limit.
+    small : (room : ℕ) (o : Outcome) → ((k : ℕ) → o ≡ refused 10 0 k → ⊥) → meetOutcome bs cs room ≡ o → Small bs cs
+    small room o other e k D = go (decLt maxProduct product)
+      where
+        go : Dec (maxProduct < product) → k ≤ maxProduct
+        go (yes h) = absurd (other product (sym e ∙ meet-over room p product refl h))
+        go (no h) = omega (arith, unique k D)
 
   meet-wrote : (room : ℕ) (out : List ℕ) → meetOutcome bs cs room ≡ wrote out → Operands bs cs
   unfolding meetOutcome
@@ -94,33 +109,36 @@ module _ (bs cs : List ℕ) where
   unfolding meetOutcome
   meet-passed room number k e = pair-refused bs cs (crossing product (result room)) number k e
 
-  -- A product of dimensions within the limit.
-  pub within : (d : ℕ) → d ≡ product → d ≤ maxProduct → Small (lettersOf bs) (accepts (automatonOf bs)) (accepts (automatonOf cs))
-  within d e h p D = omega (arith, unique p D)
-
-  -- Past row 10 the product is not over the limit.
-  small : (room : ℕ) (o : Outcome) → ((k : ℕ) → o ≡ refused 10 0 k → ⊥) → crossing product (result room) ≡ o → Small (lettersOf bs) (accepts (automatonOf bs)) (accepts (automatonOf cs))
-  small room o other e p D = go (decLt maxProduct product)
-    where
-      go : Dec (maxProduct < product) → p ≤ maxProduct
-      go (yes h) = absurd (other product (sym e ∙ if-low maxProduct product (refused 10 0 product) (result room) h))
-      go (no h) = omega (arith, unique p D)
-
-  pub meet-products : (room : ℕ) (r : Written) → r ≡ answerOf (meetOutcome bs cs room) → Limits (Refused 10 0) maxProduct (Operands bs cs) (DimensionProduct (lettersOf bs) (accepts (automatonOf bs)) (accepts (automatonOf cs))) r
-  meet-products room = limits-of 10 maxProduct product (result room) (meetOutcome bs cs room) (Operands bs cs) (DimensionProduct (lettersOf bs) (accepts (automatonOf bs)) (accepts (automatonOf cs)))
+  meet-products : (room : ℕ) (r : Written) → r ≡ answerOf (meetOutcome bs cs room) → Limits 10 maxProduct (Operands bs cs) (DimensionProduct bs cs) r
+  meet-products room = limits-of 10 maxProduct product (result room) (meetOutcome bs cs room) (Operands bs cs) (DimensionProduct bs cs)
       (passed room) (meet-passed room 10) (λ k e. let z = result-number (lettersOf bs) (meetOf (automatonOf bs) (automatonOf cs)) room 10 0 k e in omega arith)
       dimensions unique
 
-  pub meet-service : (buf : List ℕ) → Service (lettersOf bs) (intersection (accepts (automatonOf bs)) (accepts (automatonOf cs))) (Operands bs cs × Small (lettersOf bs) (accepts (automatonOf bs)) (accepts (automatonOf cs))) buf (meetOutcome bs cs (length buf))
-  meet-service buf = service-of (lettersOf bs) (intersection (accepts (automatonOf bs)) (accepts (automatonOf cs))) (meetOf (automatonOf bs) (automatonOf cs))
-      (λ w ow. sym (accepts-meet (automatonOf bs) (automatonOf cs) w)) (Operands bs cs × Small (lettersOf bs) (accepts (automatonOf bs)) (accepts (automatonOf cs))) (λ p. sizes bs (p .0 .0)) buf (meetOutcome bs cs (length buf))
-      (λ p. meet-within (length buf) (p .0) product refl (p .1 product dimensions)) writes refuses
+  meet-service : (buf : List ℕ) → Service (lettersOf bs) (intersection (languageOf bs) (languageOf cs)) (Operands bs cs × Small bs cs) buf (meetOutcome bs cs (length buf))
+  meet-service buf = service-of (lettersOf bs) (intersection (languageOf bs) (languageOf cs)) (meetOf (automatonOf bs) (automatonOf cs))
+      (λ w ow. sym (accepts-meet (automatonOf bs) (automatonOf cs) w)) (Operands bs cs × Small bs cs) (λ p. sizes bs (p .0 .0)) buf (meetOutcome bs cs (length buf))
+      (λ p. meet-within (length buf) (p .0) product refl (p .1 product (dimensions (p .0)))) writes refuses
     where
-      pair : (o : Outcome) → meetOutcome bs cs (length buf) ≡ o → ((k : ℕ) → o ≡ refused 10 0 k → ⊥) → Operands bs cs → Operands bs cs × Small (lettersOf bs) (accepts (automatonOf bs)) (accepts (automatonOf cs))
-      pair o e other p = (p, small (length buf) o other (sym (passed (length buf) p) ∙ e))
+      pair : (o : Outcome) → meetOutcome bs cs (length buf) ≡ o → ((k : ℕ) → o ≡ refused 10 0 k → ⊥) → Operands bs cs → Operands bs cs × Small bs cs
+      pair o e other p = (p, small p (length buf) o other e)
 
-      writes : (out : List ℕ) → meetOutcome bs cs (length buf) ≡ wrote out → Operands bs cs × Small (lettersOf bs) (accepts (automatonOf bs)) (accepts (automatonOf cs))
+      writes : (out : List ℕ) → meetOutcome bs cs (length buf) ≡ wrote out → Operands bs cs × Small bs cs
       writes out e = pair (wrote out) e (λ k q. let z : _≡_ {A = ℕ} 0 1 = cc in omega arith) (meet-wrote (length buf) out e)
 
-      refuses : (k : ℕ) → meetOutcome bs cs (length buf) ≡ refused 11 0 k → Operands bs cs × Small (lettersOf bs) (accepts (automatonOf bs)) (accepts (automatonOf cs))
+      refuses : (k : ℕ) → meetOutcome bs cs (length buf) ≡ refused 11 0 k → Operands bs cs × Small bs cs
       refuses k e = pair (refused 11 0 k) e (λ j q. let z : _≡_ {A = ℕ} 11 10 = cc in omega arith) (meet-passed (length buf) 11 k e)
+
+  -- Row 10 beside the promises that every operation has.
+  abbrev Promised : List ℕ → List ℕ → Written → Type 0
+  Promised buf exit r = (r ≡ answerIn (meetOutcome bs cs) buf) × ((exit ≡ bufferIn (meetOutcome bs cs) buf) × Meets bs cs exit r)
+
+  with-products : (buf exit : List ℕ) (r : Written)
+      → Promises (lettersOf bs) (intersection (languageOf bs) (languageOf cs)) (Operands bs cs × Small bs cs) (meetOutcome bs cs (length buf)) buf exit r → Promised buf exit r
+  with-products buf exit r p = (p .0, (p .1 .0, record { products = meet-products (length buf) r (p .0); gives = p .1 .1 }))
+
+  pub meet-refuses : (buf : List ℕ) (number which place : ℕ) (r : Written) → meetOutcome bs cs (length buf) ≡ refused number which place → r ≡ Refused number which place → Promised buf buf r
+  meet-refuses buf number which place r e answer = with-products buf buf r (meet-service buf .0 number which place r e answer)
+
+  pub meet-gives : (buf t : List ℕ) (m : Machine) (exit : List ℕ) (r : Written) → Operands bs cs × Small bs cs → Built (lettersOf bs) (intersection (languageOf bs) (languageOf cs)) t m
+      → r ≡ answerIn (resultOf (m .letters) (automatonIn t m)) buf → exit ≡ bufferIn (resultOf (m .letters) (automatonIn t m)) buf → Promised buf exit r
+  meet-gives buf t m exit r p B answer buffer = with-products buf exit r (meet-service buf .1 t m exit r p B answer buffer)

@@ -2,21 +2,23 @@
 --   maxProduct                  the largest product of the dimensions that is taken
 --   crossing d rest             row 10: a product over that is refused, else the rest decides
 --   meetOutcome bs cs room      what the service does with a buffer of so many bytes
---   DimensionProduct a L K p    p is the product of the dimensions of L and K
---   Small a L K                 that product is not over the limit
+--   DimensionProduct bs cs p    p is the product of the dimensions of two records
+--   Small bs cs                 that product is not over the limit
+--   Meets bs cs exit r          what is claimed of the answer r and the buffer at exit, over all words and all automata
 use mathlib.Core.Path.{_≡_}
 use mathlib.Core.Bool.{cond}
 use mathlib.Core.List.{List}
 use Prim.Native.Nat.{ℕ, _*_, _≤_}
 use lib.Dec.{ltb}
-use Rattle.automata.specs.Language.{Language}
-use Rattle.automata.specs.Dimension.{IsDimension}
+use Rattle.automata.specs.Language.{intersection}
 use Rattle.automata.specs.MinimalOf.{dimensionOf}
 use Rattle.automata.specs.Operations.{meetOf}
-use Rattle.record.specs.Record.{lettersOf, automatonOf}
+use Rattle.record.specs.Record.{lettersOf, automatonOf, languageOf}
+use Rattle.record.specs.Claims.{HasDimension}
 use Rattle.record.specs.Outcome.{Outcome, refused}
-use Rattle.operands.specs.Operands.{pairOf, afterPair}
-use Rattle.results.specs.Results.{resultOf}
+use Rattle.record.specs.declared.Written.{Written}
+use Rattle.operands.specs.Operands.{pairOf, afterPair, Operands}
+use Rattle.results.specs.Results.{resultOf, Limits, Gives}
 
 abbrev pub maxProduct : ℕ
 maxProduct = 64
@@ -31,12 +33,20 @@ meetOutcome bs cs room =
     (crossing (dimensionOf (lettersOf bs) (automatonOf bs) * dimensionOf (lettersOf bs) (automatonOf cs))
     (resultOf (lettersOf bs) (meetOf (automatonOf bs) (automatonOf cs)) room))
 
-pub record DimensionProduct (a : ℕ) (L K : Language) (p : ℕ) : Type 0 where
+-- ---- what is claimed
+
+pub record DimensionProduct (bs cs : List ℕ) (p : ℕ) : Type 0 where
   pub first : ℕ
   pub second : ℕ
-  pub one : IsDimension a L first
-  pub two : IsDimension a K second
+  pub one : HasDimension bs first
+  pub two : HasDimension cs second
   pub product : p ≡ first * second
 
-abbrev pub Small : ℕ → Language → Language → Type 0
-Small a L K = (p : ℕ) → DimensionProduct a L K p → p ≤ maxProduct
+abbrev pub Small : List ℕ → List ℕ → Type 0
+Small bs cs = (p : ℕ) → DimensionProduct bs cs p → p ≤ maxProduct
+
+-- Row 10 comes exactly where the records pass and the product of their dimensions is over 64. Where it is not, the minimal record of the
+-- words that both accept is given, or row 11.
+pub record Meets (bs cs exit : List ℕ) (r : Written) : Type 0 where
+  pub products : Limits 10 maxProduct (Operands bs cs) (DimensionProduct bs cs) r
+  pub gives : Gives (lettersOf bs) (intersection (languageOf bs) (languageOf cs)) (Operands bs cs × Small bs cs) exit r

@@ -1,19 +1,16 @@
 // The meet of two records: the product automaton of their minimal automata, and the minimal record of its words.
 ghost use mathlib.Core.Path.{_≡_};
 ghost use Prim.Native.Nat.{ℕ, _+_, _*_, _^_, _≤_, _<_};
-ghost use lib.ListN.{length, take};
+ghost use lib.ListN.{length};
 ghost use Rattle.automata.specs.Automaton.{accepts};
-ghost use Rattle.automata.specs.Language.{Same, intersection};
-ghost use Rattle.automata.specs.Dimension.{IsDimension};
+ghost use Rattle.automata.specs.Language.{intersection};
 ghost use Rattle.rows.specs.Row.{width, mask};
 ghost use Rattle.rows.specs.Table.{blocks, size, at};
 ghost use Rattle.rows.specs.Machine.{automatonIn, Valid};
 ghost use Rattle.direct_sum.specs.Filled.{Filled};
-ghost use Rattle.record.specs.Record.{maxStates, lettersOf, languageOf};
-ghost use Rattle.record.specs.Outcome.{answerOf, bufferOf};
-ghost use Rattle.results.specs.Results.{MinimalRecord, Operands, Limits};
+ghost use Rattle.record.specs.Outcome.{answerIn, bufferIn};
 ghost use Rattle.results.specs.Built.{Built};
-ghost use Rattle.intersection.specs.Meet.{maxProduct, meetOutcome, DimensionProduct, Small};
+ghost use Rattle.intersection.specs.Meet.{meetOutcome, Meets};
 ghost use Rattle.intersection.specs.Kron.{kron, crossed};
 use operands::Pair;
 use record::Written;
@@ -87,16 +84,12 @@ fn product(t: &Table, g: Machine, u: &Table, h: Machine, s: &mut Table) -> Machi
     }
 }
 
-// Writes the minimal record of the words that both records accept. `words` and `form`: as for operations::sum.
-// `products`: refusal 10 comes exactly where the records pass and the product of the dimensions of their languages is over 64.
-// `limits`: refusal 11 comes exactly where, besides, that product is not over 64 and the dimension of the meet is over 32.
+// Writes the minimal record of the words that both records accept. `claims`: as for operations::sum; besides, refusal 10 comes exactly where
+// the records pass and the product of their dimensions is over 64, its place the product, and refusal 11 only where that product is not.
 pub fn meet(first: &[u8], second: &[u8], out: &mut [u8]) -> Written
-    ensures answer { λ r. ⌜ r ≡ answerOf (meetOutcome (now (first .entry)) (now (second .entry)) (length (now (out .entry)))) ⌝ }
-    ensures buffer { λ _. ⌜ now (out .exit) ≡ bufferOf (meetOutcome (now (first .entry)) (now (second .entry)) (length (now (out .entry)))) (now (out .entry)) ⌝ }
-    ensures products { λ r. ⌜ Limits (Written.Refused 10 0) maxProduct (Operands (now (first .entry)) (now (second .entry))) (DimensionProduct (lettersOf (now (first .entry))) (languageOf (now (first .entry))) (languageOf (now (second .entry)))) r ⌝ }
-    ensures words { λ r. ⌜ ((n : ℕ) → r ≡ Written.Done n → Same (lettersOf (now (first .entry))) (intersection (languageOf (now (first .entry))) (languageOf (now (second .entry)))) (languageOf (take n (now (out .exit))))) ⌝ }
-    ensures form { λ r. ⌜ ((n : ℕ) → r ≡ Written.Done n → MinimalRecord (lettersOf (now (first .entry))) (intersection (languageOf (now (first .entry))) (languageOf (now (second .entry)))) (take n (now (out .exit)))) ⌝ }
-    ensures limits { λ r. ⌜ Limits (Written.Refused 11 0) maxStates (Operands (now (first .entry)) (now (second .entry)) × Small (lettersOf (now (first .entry))) (languageOf (now (first .entry))) (languageOf (now (second .entry)))) (IsDimension (lettersOf (now (first .entry))) (intersection (languageOf (now (first .entry))) (languageOf (now (second .entry))))) r ⌝ }
+    ensures answer { λ r. ⌜ r ≡ answerIn (meetOutcome (now (first .entry)) (now (second .entry))) (now (out .entry)) ⌝ }
+    ensures buffer { λ _. ⌜ now (out .exit) ≡ bufferIn (meetOutcome (now (first .entry)) (now (second .entry))) (now (out .entry)) ⌝ }
+    ensures claims { λ r. ⌜ Meets (now (first .entry)) (now (second .entry)) (now (out .exit)) r ⌝ }
 {
     let p = operands::check_pair(first, second);
     let Pair::Both = p else {

@@ -6,10 +6,11 @@ use native.Mathlib.Omega.{arith}
 use native.Mathlib.Decide.{ℕ-discrete}
 use lib.ListN.{length, getD, take, drop, length-append, List·getD-append}
 use lib.Seq.{take-append-seam, drop-append-seam}
-use Rattle.record.specs.Record.{header, frontOf, needOf, lettersOf, checkOf, WellFormed}
+use Rattle.record.specs.Record.{header, frontOf, needOf, checkOf, WellFormed}
 use Rattle.record.specs.declared.Checked.the-variants.{Good}
 use Rattle.record.proofs.Bytes.{number-2}
 use Rattle.record.proofs.Refusals.{good-front, front-good, good-check}
+use Rattle.operands.specs.Operands.{Operands}
 use Rattle.script.specs.Script.{partAt, bytesAt}
 use Rattle.script.specs.declared.Part.the-variants.{Whole}
 use Rattle.script.proofs.Parts.{whole-met}
@@ -124,7 +125,7 @@ module _ (key : List ℕ) (answers : List (List ℕ)) (good : WellFormed key) (f
 
   -- The line of each answer tells of it and the key.
   pub answers-told : length (joined (key ∷ answers)) ≤ maxScript → (i : ℕ) → i < length answers
-      → WellFormed (getD answers i []) → lettersOf key ≡ lettersOf (getD answers i [])
+      → Operands key (getD answers i [])
       → AnswerTold (suc i) key (getD answers i []) (markLine (joined (key ∷ answers)) (suc i))
-  answers-told short i h two letters =
-      told (joined (key ∷ answers)) (suc i) (markLine (joined (key ∷ answers)) (suc i)) short refl .answer key (getD answers i []) (omega arith) key-at (answer-at i h) good two letters
+  answers-told short i h p =
+      told (joined (key ∷ answers)) (suc i) (markLine (joined (key ∷ answers)) (suc i)) short refl .answer key (getD answers i []) (omega arith) key-at (answer-at i h) p

@@ -1,26 +1,26 @@
 -- What the lines tell of a record's words, over all words: the claims of the comparison and of the dimension, for each record of a script.
 use mathlib.Core.Path.{_≡_, refl, sym, ap, ap₂, subst, _∙_}
-use mathlib.Core.Bool.{Bool, true, false}
-use mathlib.Core.List.{List, []}
+use mathlib.Core.List.{List}
 use mathlib.Core.Option.{Option, none, some}
 use Prim.Native.Nat.{ℕ, _-_, _≤_}
 use native.Mathlib.Omega.{arith}
 use lib.ListN.{length, take, drop}
-use Rattle.automata.specs.Xor.{_⊕_}
 use Rattle.automata.proofs.Dimension.{dimension-unique, dimension-of}
 use Rattle.automata.proofs.FirstDifference.{difference-none, difference-some, none-difference, some-difference}
 use Rattle.record.specs.Record.{lettersOf, WellFormed, automatonOf, languageOf}
+use Rattle.record.specs.Claims.{HasDimension}
+use Rattle.operands.specs.Operands.{Operands}
 use Rattle.operands.proofs.PairLaws.{both-pass}
-use Rattle.compare.specs.Compare.{differenceOf, sideOf, acceptorOf}
+use Rattle.compare.specs.Compare.{differenceOf, sideOf, Differ}
 use Rattle.compare.specs.declared.Side.{Side}
-use Rattle.compare.specs.declared.Side.the-variants.{First, Second}
-use Rattle.compare.proofs.CompareLaws.{clash, accepted}
+use Rattle.compare.proofs.CompareLaws.{clash}
+use Rattle.compare.proofs.Claims.{accepted, side-named}
 use Rattle.script.specs.Script.{partAt, afterPart}
 use Rattle.script.proofs.Parts.{whole-stands}
 use Rattle.lines.specs.Lines.{keyLine, sameLine, differLine}
 use Rattle.walk.specs.Walk.{placeOf}
 use Rattle.marking.specs.Marking.{maxScript, dimensionIn, keyRecordLine, answerLine, keyOf, keyPartLine, answerPartLine, markLine}
-use Rattle.marking.specs.Told.{RecordAt, HasDimension, KeyTold, Differ, AnswerTold, Told}
+use Rattle.marking.specs.Told.{RecordAt, KeyTold, AnswerTold, Told}
 use Rattle.marking.proofs.Cases.{key-good, line-key, line-answer}
 use Rattle.marking.proofs.Verdicts.{answer-same, answer-differs}
 use Rattle.lines.proofs.Readable.{dim-injective, differ-injective, not-both}
@@ -31,16 +31,6 @@ shown bs d h = dimension-unique (lettersOf bs) (languageOf bs) (dimensionIn bs) 
 
 shows : (bs : List ℕ) (d : ℕ) → dimensionIn bs ≡ d → HasDimension bs d
 shows bs d e = subst (HasDimension bs) e (dimension-of (lettersOf bs) (automatonOf bs))
-
--- The side that accepts the first difference is the one that the comparison names.
-side-named : (key answer w : List ℕ) (side : Side) → languageOf key w ⊕ languageOf answer w ≡ true → languageOf (acceptorOf side key answer) w ≡ true → sideOf (languageOf key w) ≡ side
-side-named key answer w First e h = rw h
-side-named key answer w Second e h = go (languageOf key w) (languageOf answer w) e h
-  where
-    go : (k a : Bool) → k ⊕ a ≡ true → a ≡ true → sideOf k ≡ Second
-    go true true e h = clash (cc)
-    go true false e h = clash (cc)
-    go false a e h = refl
 
 -- ---- the records of a script
 
@@ -76,13 +66,13 @@ key-told key line good e d =
       λ h. l ∙ ap keyLine (shown key d h),
     )
 
-answer-told : (index : ℕ) (key answer line : List ℕ) → WellFormed key → WellFormed answer → lettersOf key ≡ lettersOf answer → line ≡ answerLine index key answer → AnswerTold index key answer line
+answer-told : (index : ℕ) (key answer line : List ℕ) → Operands key answer → line ≡ answerLine index key answer → AnswerTold index key answer line
 unfolding differenceOf
-answer-told index key answer line one two letters e = go (differenceOf key answer) refl
+answer-told index key answer line p e = go (differenceOf key answer) refl
   where
     go : (d : Option (List ℕ)) → differenceOf key answer ≡ d → AnswerTold index key answer line
     go none h =
-        let l : line ≡ sameLine index (dimensionIn answer) = e ∙ answer-same index key answer (both-pass key answer one two letters) h in
+        let l : line ≡ sameLine index (dimensionIn answer) = e ∙ answer-same index key answer (both-pass key answer (p .0) (p .1) (p .2)) h in
         record {
           says-same = λ d q. (difference-none (lettersOf key) (automatonOf key) (automatonOf answer) h, shows answer d (dim-injective index _ (dimensionIn answer) d (sym l ∙ q)));
           same = λ d f hd. l ∙ ap (sameLine index) (shown answer d hd);
@@ -90,14 +80,14 @@ answer-told index key answer line one two letters e = go (differenceOf key answe
           differ = λ d w side f hd. clash (let q = sym h ∙ some-difference (lettersOf key) (automatonOf key) (automatonOf answer) w (f .0) in cc);
         }
     go (some v) h =
-        let l : line ≡ differLine index (dimensionIn answer) v (sideOf (languageOf key v)) = e ∙ answer-differs index key answer (both-pass key answer one two letters) v h in
+        let l : line ≡ differLine index (dimensionIn answer) v (sideOf (languageOf key v)) = e ∙ answer-differs index key answer (both-pass key answer (p .0) (p .1) (p .2)) v h in
         let f = difference-some (lettersOf key) (automatonOf key) (automatonOf answer) v h in
         record {
           says-same = λ d q. absurd (not-both index d (dimensionIn answer) v (sideOf (languageOf key v)) (sym q ∙ l));
           same = λ d s hd. clash (let q = sym h ∙ none-difference (lettersOf key) (automatonOf key) (automatonOf answer) s in cc);
           says-differ = λ d w side q.
               let i = differ-injective index (dimensionIn answer) d v w (sideOf (languageOf key v)) side (sym l ∙ q) in
-              (subst (λ x. Differ key answer x side) (i .1) (subst (Differ key answer v) (i .2) (f, accepted key answer [] v (f .differs))), shows answer d (i .0));
+              (subst (λ x. Differ key answer x side) (i .1) (subst (Differ key answer v) (i .2) (f, accepted key answer v (f .differs))), shows answer d (i .0));
           differ = λ d w side g hd.
               let q = sym h ∙ some-difference (lettersOf key) (automatonOf key) (automatonOf answer) w (g .0) in
               let e : v ≡ w = cc in
@@ -108,5 +98,5 @@ answer-told index key answer line one two letters e = go (differenceOf key answe
 pub told : (s : List ℕ) (index : ℕ) (line : List ℕ) → length s ≤ maxScript → line ≡ markLine s index → Told s index line
 told s index line short e = record {
   key = λ key z r good. key-told key line good (e ∙ key-line s index key short z r);
-  answer = λ key answer more k r one two letters. answer-told index key answer line one two letters (e ∙ answer-line s index key answer short (λ z. omega arith) k r);
+  answer = λ key answer more k r p. answer-told index key answer line p (e ∙ answer-line s index key answer short (λ z. omega arith) k r);
 }

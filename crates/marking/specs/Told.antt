@@ -4,20 +4,23 @@
 --   AnswerTold index key answer line  an answer's line says `same` exactly when its words are the key's; else its word is the first
 --                                     that just one of the two accepts, and the one named accepts it; its dimension is the answer's own
 --   Told s index line                 both, for the record of an index
+--   Marks s index exit r              what is claimed of the marking service's answer r and the buffer at exit
 use mathlib.Core.Path.{_≡_}
-use mathlib.Core.Bool.{true}
 use mathlib.Core.List.{List}
-use Prim.Native.Nat.{ℕ, _<_}
-use Rattle.automata.specs.Language.{Same}
-use Rattle.automata.specs.Dimension.{IsDimension}
-use Rattle.automata.specs.FirstDifference.{FirstDifference}
-use Rattle.record.specs.Record.{lettersOf, WellFormed, languageOf}
-use Rattle.compare.specs.Compare.{acceptorOf}
+use Prim.Native.Nat.{ℕ, _<_, _≤_}
+use lib.ListN.{length, take}
+use Rattle.record.specs.Record.{WellFormed}
+use Rattle.record.specs.Claims.{HasDimension}
+use Rattle.record.specs.declared.Written.{Written}
+use Rattle.record.specs.declared.Written.the-variants.{Done}
+use Rattle.operands.specs.Operands.{Operands, SameWords}
+use Rattle.compare.specs.Compare.{Differ}
 use Rattle.compare.specs.declared.Side.{Side}
 use Rattle.script.specs.Script.{partAt, bytesAt}
 use Rattle.script.specs.declared.Part.the-variants.{Whole}
 use Rattle.lines.specs.Lines.{keyLine, sameLine, differLine}
 use Rattle.walk.specs.Walk.{placeOf}
+use Rattle.marking.specs.Marking.{maxScript}
 
 -- Of a key and answers end to end, the record of index 0 is the key, and that of index i + 1 the answer i (proofs/EndToEnd).
 pub record RecordAt (s : List ℕ) (index : ℕ) (bs : List ℕ) : Type 0 where
@@ -26,18 +29,8 @@ pub record RecordAt (s : List ℕ) (index : ℕ) (bs : List ℕ) : Type 0 where
   pub whole : partAt s (placeOf s index) ≡ Whole start next
   pub bytes : bs ≡ bytesAt s start next
 
-abbrev pub HasDimension : List ℕ → ℕ → Type 0
-HasDimension bs d = IsDimension (lettersOf bs) (languageOf bs) d
-
 abbrev pub KeyTold : List ℕ → List ℕ → Type 0
 KeyTold key line = (d : ℕ) → (line ≡ keyLine d → HasDimension key d) × (HasDimension key d → line ≡ keyLine d)
-
--- The key and the answer have the same words over the key's letters; w is their first difference, and the side named accepts it.
-abbrev pub SameWords : List ℕ → List ℕ → Type 0
-SameWords key answer = Same (lettersOf key) (languageOf key) (languageOf answer)
-
-abbrev pub Differ : List ℕ → List ℕ → List ℕ → Side → Type 0
-Differ key answer w side = FirstDifference (lettersOf key) (languageOf key) (languageOf answer) w × (languageOf (acceptorOf side key answer) w ≡ true)
 
 pub record AnswerTold (index : ℕ) (key answer line : List ℕ) : Type 0 where
   pub says-same : (d : ℕ) → line ≡ sameLine index d → SameWords key answer × HasDimension answer d
@@ -48,4 +41,8 @@ pub record AnswerTold (index : ℕ) (key answer line : List ℕ) : Type 0 where
 pub record Told (s : List ℕ) (index : ℕ) (line : List ℕ) : Type 0 where
   pub key : (key : List ℕ) → index ≡ 0 → RecordAt s 0 key → WellFormed key → KeyTold key line
   pub answer : (key answer : List ℕ) → 0 < index → RecordAt s 0 key → RecordAt s index answer
-      → WellFormed key → WellFormed answer → lettersOf key ≡ lettersOf answer → AnswerTold index key answer line
+      → Operands key answer → AnswerTold index key answer line
+
+-- Of the marking service, for a script that is not too long: where the answer grants, the line written tells it.
+abbrev pub Marks : List ℕ → ℕ → List ℕ → Written → Type 0
+Marks s index exit r = length s ≤ maxScript → (n : ℕ) → r ≡ Done n → Told s index (take n exit)

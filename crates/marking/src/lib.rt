@@ -1,13 +1,13 @@
 // Marking a script: the line of each of its records, and the marking service.
 ghost use mathlib.Core.Path.{_≡_};
-ghost use Prim.Native.Nat.{ℕ, _≤_};
-ghost use lib.ListN.{length, take};
+ghost use Prim.Native.Nat.{_≤_};
+ghost use lib.ListN.{length};
 ghost use Rattle.record.specs.Record.{WellFormed};
-ghost use Rattle.record.specs.Outcome.{fit, answerOf, bufferOf};
+ghost use Rattle.record.specs.Outcome.{fit, answerOf, bufferOf, answerIn, bufferIn};
 ghost use Rattle.script.specs.Script.{partAt};
 ghost use Rattle.lines.specs.Lines.{longest, Begins};
-ghost use Rattle.marking.specs.Marking.{maxScript, dimensionIn, keyRecordLine, answerLine, keyPartLine, answerPartLine, lineAt, markLine, markOutcome};
-ghost use Rattle.marking.specs.Told.{Told};
+ghost use Rattle.marking.specs.Marking.{dimensionIn, keyRecordLine, answerLine, keyPartLine, answerPartLine, lineAt, markLine, markOutcome};
+ghost use Rattle.marking.specs.Told.{Marks};
 use compare::Compared;
 use record::Checked;
 use record::Written;
@@ -122,14 +122,14 @@ pub fn line_at(script: &[u8], index: usize, at: usize, out: &mut [u8]) -> Writte
 
 // The marking service: writes the line of the record of an index, or no bytes where marking ends before it; it refuses only with 12.
 // `room`: a buffer of 160 bytes holds every line.
-// `told`: for each record of a script that is not too long, the line tells of all its words what 01 asks. The key's line has the
+// `claims`: for each record of a script that is not too long, the line tells of all its words what 01 asks. The key's line has the
 // dimension of its language. An answer's line says `same` exactly when the key accepts the same words; otherwise its word is the
 // first in shortlex order that just one of the two accepts, the one named accepts it, and the dimension is the answer's own.
 pub fn mark(script: &[u8], index: usize, out: &mut [u8]) -> Written
-    ensures answer { λ r. ⌜ r ≡ answerOf (markOutcome (now (script .entry)) index (length (now (out .entry)))) ⌝ }
-    ensures buffer { λ _. ⌜ now (out .exit) ≡ bufferOf (markOutcome (now (script .entry)) index (length (now (out .entry)))) (now (out .entry)) ⌝ }
+    ensures answer { λ r. ⌜ r ≡ answerIn (markOutcome (now (script .entry)) index) (now (out .entry)) ⌝ }
+    ensures buffer { λ _. ⌜ now (out .exit) ≡ bufferIn (markOutcome (now (script .entry)) index) (now (out .entry)) ⌝ }
     ensures room { λ _. ⌜ length (markLine (now (script .entry)) index) ≤ longest ⌝ }
-    ensures told { λ r. ⌜ (length (now (script .entry)) ≤ maxScript → (n : ℕ) → r ≡ Written.Done n → Told (now (script .entry)) index (take n (now (out .exit)))) ⌝ }
+    ensures claims { λ r. ⌜ Marks (now (script .entry)) index (now (out .exit)) r ⌝ }
 {
     let at = walk::place(script, index);
     line_at(script, index, at, out)

@@ -1,9 +1,10 @@
--- Number 0 grants: no refusal has it, so a reply with number 0 tells that the service did its work.
-use mathlib.Core.Path.{_≡_, refl, sym, ap, _∙_}
+-- Number 0 grants: no refusal has it, so a host reads the answer off the reply.
+use mathlib.Core.Path.{_≡_, refl, sym, ap, subst, _∙_}
 use mathlib.Core.Bool.{Bool, true, false, cond, not, _||_}
 use mathlib.Core.List.{List}
 use Prim.Native.Nat.{ℕ, zero, suc, _+_, _*_, _≤_, _^_}
 use native.Mathlib.Omega.{arith}
+use borrow.Author.Tests.{ne-eqb}
 use lib.Dec.{ltb, leb, eqb}
 use lib.ListN.{length, getD}
 use Rattle.record.specs.Bytes.{number}
@@ -12,17 +13,15 @@ use Rattle.record.specs.Outcome.{Outcome, refused, wrote, answerOf, checked, fi
 use Rattle.record.specs.declared.Checked.{Checked}
 use Rattle.record.specs.declared.Checked.the-variants.{Good, Refused}
 use Rattle.record.specs.declared.Written.{Written}
-use Rattle.record.specs.declared.Written.the-variants.{Done as Wrote}
 use Rattle.operands.specs.Operands.{named, pairOf, afterPair}
 use Rattle.operands.specs.declared.Pair.{Pair}
 use Rattle.operands.specs.declared.Pair.the-variants.{Both, Refused as NotBoth}
 use Rattle.minimal.specs.Minimal.{minimalBytes, minimalOutcome, minimisedAs}
 use Rattle.minimal.specs.declared.Minimised.{Minimised}
-use Rattle.minimal.specs.declared.Minimised.the-variants.{Done}
 use Rattle.replies.specs.declared.Reply.{Reply}
 use Rattle.catalogue.specs.Entries.{last, recordOf, catalogueOf}
 use Rattle.marking.specs.Marking.{markLine, markOutcome}
-use Rattle.replies.specs.Reply.{ofChecked, ofWritten, ofMinimised}
+use Rattle.replies.specs.Reply.{ofChecked, ofWritten, ofMinimised, writtenIn, minimisedIn}
 
 -- ---- the record check
 
@@ -94,6 +93,10 @@ fit-reasoned room out = go (ltb room (length out))
     go true = omega arith
     go false = tt
 
+pub limit-reasoned : (b : Bool) (number d : ℕ) (rest : Outcome) → 1 ≤ number → Reasoned rest → Reasoned (cond b (refused number 0 d) rest)
+limit-reasoned true number d rest h r = h
+limit-reasoned false number d rest h r = r
+
 -- The checks of two records.
 abbrev Paired : Pair → Type 0
 Paired Both = Unit {0}
@@ -120,34 +123,9 @@ after-reasoned (NotBoth code which place) rest h r = h
 pub pair-reasoned : (bs cs : List ℕ) (rest : Outcome) → Reasoned rest → Reasoned (afterPair (pairOf bs cs) rest)
 pair-reasoned bs cs rest r = after-reasoned (pairOf bs cs) rest (pair-paired bs cs) r
 
-minimal-reasoned : (bs : List ℕ) (room : ℕ) → Reasoned (minimalOutcome bs room)
+pub minimal-reasoned : (bs : List ℕ) (room : ℕ) → Reasoned (minimalOutcome bs room)
 unfolding minimalOutcome
 minimal-reasoned bs room = checked-reasoned (checkOf bs) 1 _ (check-numbered bs) (fit-reasoned room (minimalBytes bs))
-
-minimal-done : (o : Outcome) (d : ℕ) → Reasoned o → ofMinimised (minimisedAs d (answerOf o)) .number ≡ 0
-    → minimisedAs d (answerOf o) ≡ Done (ofMinimised (minimisedAs d (answerOf o)) .length) (ofMinimised (minimisedAs d (answerOf o)) .value)
-minimal-done (refused code which place) d n e = absurd (omega arith)
-minimal-done (wrote out) d n e = refl
-
--- The answer behind a reply of the minimal service with number 0.
-pub minimal-granted : (bs : List ℕ) (room d : ℕ) (m : Minimised) (r : Reply) → m ≡ minimisedAs d (answerOf (minimalOutcome bs room))
-    → r ≡ ofMinimised m → r .number ≡ 0 → m ≡ Done (r .length) (r .value)
-minimal-granted bs room d m r answer told e =
-    let o = minimalOutcome bs room in
-    let t : r ≡ ofMinimised (minimisedAs d (answerOf o)) = told ∙ ap ofMinimised answer in
-    answer
-    ∙ minimal-done o d (minimal-reasoned bs room) (sym (ap (λ x. x .number) t) ∙ e)
-    ∙ ap (λ x. Done (x .length) (x .value)) (sym t)
-
-written-done : (o : Outcome) → Reasoned o → ofWritten (answerOf o) .number ≡ 0 → answerOf o ≡ Wrote (ofWritten (answerOf o) .length)
-written-done (refused code which place) n e = absurd (omega arith)
-written-done (wrote out) n e = refl
-
--- The answer behind a reply with number 0 of a service that writes.
-pub written-granted : (o : Outcome) (w : Written) (r : Reply) → Reasoned o → w ≡ answerOf o → r ≡ ofWritten w → r .number ≡ 0 → w ≡ Wrote (r .length)
-written-granted o w r h answer told e =
-    let t : r ≡ ofWritten (answerOf o) = told ∙ ap ofWritten answer in
-    answer ∙ written-done o h (sym (ap (λ x. x .number) t) ∙ e) ∙ ap (λ x. Wrote (x .length)) (sym t)
 
 pub mark-reasoned : (s : List ℕ) (index room : ℕ) → Reasoned (markOutcome s index room)
 unfolding markOutcome
@@ -155,8 +133,28 @@ mark-reasoned s index room = fit-reasoned room (markLine s index)
 
 pub catalogue-reasoned : (number room : ℕ) → Reasoned (catalogueOf number room)
 unfolding catalogueOf
-catalogue-reasoned j room = go (ltb last j)
+catalogue-reasoned j room = limit-reasoned (ltb last j) 13 j (fit room (recordOf j)) (omega arith) (fit-reasoned room (recordOf j))
+
+-- ---- the answer that a host reads off a reply
+
+pub not-zero : (code : ℕ) → 1 ≤ code → eqb code 0 ≡ false
+not-zero code h = ne-eqb code 0 (λ e. omega arith)
+
+pub written-back : (o : Outcome) (w : Written) → Reasoned o → w ≡ answerOf o → writtenIn (ofWritten w) ≡ w
+written-back o w h e = subst (λ x. writtenIn (ofWritten x) ≡ x) (sym e) (go o h)
   where
-    go : (b : Bool) → Reasoned (cond b (refused 13 0 j) (fit room (recordOf j)))
-    go true = omega arith
-    go false = fit-reasoned room (recordOf j)
+    go : (o : Outcome) → Reasoned o → writtenIn (ofWritten (answerOf o)) ≡ answerOf o
+    go (refused code which place) h = rw (not-zero code h)
+    go (wrote out) h = refl
+
+pub minimised-back : (o : Outcome) (d : ℕ) (m : Minimised) → Reasoned o → m ≡ minimisedAs d (answerOf o) → minimisedIn (ofMinimised m) ≡ m
+minimised-back o d m h e = subst (λ x. minimisedIn (ofMinimised x) ≡ x) (sym e) (go o h)
+  where
+    go : (o : Outcome) → Reasoned o → minimisedIn (ofMinimised (minimisedAs d (answerOf o))) ≡ minimisedAs d (answerOf o)
+    go (refused code which place) h = rw (not-zero code h)
+    go (wrote out) h = refl
+
+-- An export promises what its service does, its claims of the answer that a host reads off the reply.
+pub told : {X : Type 0} (of : X → Reply) (back : Reply → X) (x y : X) (r : Reply) (Buffer : Type 0) (Claims : X → Type 0)
+    → r ≡ of x → back (of x) ≡ x → (x ≡ y) × (Buffer × Claims x) → (r ≡ of y) × (Buffer × Claims (back r))
+told of back x y r Buffer Claims e b p = (e ∙ ap of (p .0), (p .1 .0, subst Claims (sym (ap back e ∙ b)) (p .1 .1)))

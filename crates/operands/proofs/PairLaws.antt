@@ -9,7 +9,7 @@ use lib.Dec.{eqb}
 use Rattle.record.specs.Record.{lettersOf, checkOf, WellFormed}
 use Rattle.record.specs.declared.Checked.{Checked}
 use Rattle.record.specs.declared.Checked.the-variants.{Good, Refused as Bad}
-use Rattle.operands.specs.Operands.{named, pairOf}
+use Rattle.operands.specs.Operands.{named, pairOf, Operands}
 use Rattle.operands.specs.declared.Pair.{Pair}
 use Rattle.operands.specs.declared.Pair.the-variants.{Both, Refused}
 
@@ -33,7 +33,7 @@ module _ (bs cs : List ℕ) where
       both-pass h = rw (one, two, eq-eqb (lettersOf bs) (lettersOf cs) h)
 
   -- Both are well formed, over the same letters.
-  pub both-passed : pairOf bs cs ≡ Both → WellFormed bs × WellFormed cs × (lettersOf bs ≡ lettersOf cs)
+  pub both-passed : pairOf bs cs ≡ Both → Operands bs cs
   unfolding pairOf
   both-passed e = one (checkOf bs) refl e
     where
@@ -45,6 +45,23 @@ module _ (bs cs : List ℕ) where
       two Good h q = (h, three (eqb (lettersOf bs) (lettersOf cs)) refl q)
       two (Bad number place) h q = let z : _≡_ {A = ℕ} 0 1 = cc in absurd (omega arith)
 
-      one : (c : Checked) → checkOf bs ≡ c → named c 1 (named (checkOf cs) 2 (cond (eqb (lettersOf bs) (lettersOf cs)) Both (Refused 8 2 6))) ≡ Both → WellFormed bs × WellFormed cs × (lettersOf bs ≡ lettersOf cs)
+      one : (c : Checked) → checkOf bs ≡ c → named c 1 (named (checkOf cs) 2 (cond (eqb (lettersOf bs) (lettersOf cs)) Both (Refused 8 2 6))) ≡ Both → Operands bs cs
       one Good h q = let t = two (checkOf cs) refl q in (h, t .0, t .1)
       one (Bad number place) h q = let z : _≡_ {A = ℕ} 0 1 = cc in absurd (omega arith)
+
+-- A refusal of the checks of two records names one of them.
+pub pair-named : (bs cs : List ℕ) (number place : ℕ) → pairOf bs cs ≡ Refused number 0 place → ⊥
+unfolding pairOf
+pair-named bs cs number place e = one (checkOf bs) e
+  where
+    three : (b : Bool) → cond b Both (Refused 8 2 6) ≡ Refused number 0 place → ⊥
+    three true q = let z : _≡_ {A = ℕ} 0 1 = cc in omega arith
+    three false q = let z : _≡_ {A = ℕ} 2 0 = cc in omega arith
+
+    two : (c : Checked) → named c 2 (cond (eqb (lettersOf bs) (lettersOf cs)) Both (Refused 8 2 6)) ≡ Refused number 0 place → ⊥
+    two Good q = three (eqb (lettersOf bs) (lettersOf cs)) q
+    two (Bad n p) q = let z : _≡_ {A = ℕ} 2 0 = cc in omega arith
+
+    one : (c : Checked) → named c 1 (named (checkOf cs) 2 (cond (eqb (lettersOf bs) (lettersOf cs)) Both (Refused 8 2 6))) ≡ Refused number 0 place → ⊥
+    one Good q = two (checkOf cs) q
+    one (Bad n p) q = let z : _≡_ {A = ℕ} 1 0 = cc in omega arith

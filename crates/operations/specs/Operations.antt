@@ -3,15 +3,19 @@
 --   unaryOutcome k bs room      the operation k on one record: complement or mirror
 --   complementOutcome bs room
 --   mirrorOutcome bs room
+--   Sums bs cs exit r           what is claimed of the answer r and the buffer at exit, over all words and all automata
+--   Complements bs exit r
+--   Mirrors bs exit r
 use mathlib.Core.List.{List}
 use Prim.Native.Nat.{ℕ}
 use Rattle.automata.specs.Automaton.{Automaton}
-use Rattle.automata.specs.Language.{Language, complement, reversal}
+use Rattle.automata.specs.Language.{Language, symmetricDifference, complement, reversal}
 use Rattle.automata.specs.Operations.{sumOf, complementOf, mirrorOf}
-use Rattle.record.specs.Record.{lettersOf, checkOf, automatonOf}
+use Rattle.record.specs.Record.{lettersOf, checkOf, WellFormed, automatonOf, languageOf}
 use Rattle.record.specs.Outcome.{Outcome, checked}
-use Rattle.operands.specs.Operands.{pairOf, afterPair}
-use Rattle.results.specs.Results.{resultOf}
+use Rattle.record.specs.declared.Written.{Written}
+use Rattle.operands.specs.Operands.{pairOf, afterPair, Operands}
+use Rattle.results.specs.Results.{resultOf, Gives}
 use Rattle.operations.specs.declared.Unary.{Unary}
 use Rattle.operations.specs.declared.Unary.the-variants.{Complement, Mirror}
 
@@ -35,3 +39,21 @@ complementOutcome = unaryOutcome Complement
 
 abbrev pub mirrorOutcome : List ℕ → ℕ → Outcome
 mirrorOutcome = unaryOutcome Mirror
+
+-- ---- what is claimed
+
+-- The minimal record of the words that just one of the two accepts.
+abbrev pub Sums : List ℕ → List ℕ → List ℕ → Written → Type 0
+Sums bs cs exit r = Gives (lettersOf bs) (symmetricDifference (languageOf bs) (languageOf cs)) (Operands bs cs) exit r
+
+-- The minimal record of the words over the letters that the record does not accept.
+abbrev pub Complements : List ℕ → List ℕ → Written → Type 0
+Complements bs exit r = Gives (lettersOf bs) (complement (languageOf bs)) (WellFormed bs) exit r
+
+-- The minimal record of the reversed words.
+abbrev pub Mirrors : List ℕ → List ℕ → Written → Type 0
+Mirrors bs exit r = Gives (lettersOf bs) (reversal (languageOf bs)) (WellFormed bs) exit r
+
+-- The same of either operation on one record, for the function that both share.
+abbrev pub Operates : Unary → List ℕ → List ℕ → Written → Type 0
+Operates k bs exit r = Gives (lettersOf bs) (unaryLanguage k (languageOf bs)) (WellFormed bs) exit r

@@ -1,19 +1,18 @@
 // Sum, complement and mirror: from records to the minimal record of the result.
 ghost use mathlib.Core.Path.{_≡_};
-ghost use Prim.Native.Nat.{ℕ, _+_, _≤_, _<_};
-ghost use lib.ListN.{length, take};
+ghost use Prim.Native.Nat.{_+_, _≤_, _<_};
+ghost use lib.ListN.{length};
 ghost use Rattle.automata.specs.Automaton.{accepts};
-ghost use Rattle.automata.specs.Language.{Same, symmetricDifference, complement, reversal};
-ghost use Rattle.automata.specs.Dimension.{IsDimension};
+ghost use Rattle.automata.specs.Language.{symmetricDifference, complement, reversal};
 ghost use Rattle.rows.specs.Row.{width, mask};
 ghost use Rattle.rows.specs.Table.{blocks, size};
 ghost use Rattle.rows.specs.Machine.{automatonIn, Valid};
 ghost use Rattle.direct_sum.specs.Filled.{Filled};
-ghost use Rattle.record.specs.Record.{maxStates, lettersOf, WellFormed, languageOf};
-ghost use Rattle.record.specs.Outcome.{answerOf, bufferOf};
-ghost use Rattle.results.specs.Results.{MinimalRecord, Operands, Limits};
+ghost use Rattle.record.specs.Record.{lettersOf, WellFormed, languageOf};
+ghost use Rattle.record.specs.Outcome.{answerIn, bufferIn};
+ghost use Rattle.operands.specs.Operands.{Operands};
 ghost use Rattle.results.specs.Built.{Built};
-ghost use Rattle.operations.specs.Operations.{sumOutcome, unaryLanguage, unaryOutcome, complementOutcome, mirrorOutcome};
+ghost use Rattle.operations.specs.Operations.{sumOutcome, unaryLanguage, unaryOutcome, complementOutcome, mirrorOutcome, Sums, Operates, Complements, Mirrors};
 use operands::Pair;
 use record::Checked;
 use record::Written;
@@ -116,17 +115,13 @@ fn turn_record(bytes: &[u8], s: &mut Table) -> Machine
     machine(n, a, f, i)
 }
 
-// Writes the minimal record of the words that just one of two records accepts. Of every service below:
-// `words`: where it is granted with length n, the first n bytes of the buffer are a record that accepts exactly the words of the result.
-// `form`: they are its minimal record. It is well formed, over the operand's letters, and its states are the dimension of the result;
-// no xor automaton for those words, of any size, has fewer; and every one of them has these bytes as its minimal record.
-// `limits`: refusal 11 comes exactly where the operands pass and that dimension is over 32, its place the dimension.
+// Writes the minimal record of the words that just one of two records accepts. `claims`, of every service below: where it is granted, the
+// bytes written are the minimal record of the result, with all that MinimalRecord (record/specs/Claims) says of it; refusal 11 comes
+// exactly where the operands pass and the dimension of the result is over 32, its place the dimension.
 pub fn sum(first: &[u8], second: &[u8], out: &mut [u8]) -> Written
-    ensures answer { λ r. ⌜ r ≡ answerOf (sumOutcome (now (first .entry)) (now (second .entry)) (length (now (out .entry)))) ⌝ }
-    ensures buffer { λ _. ⌜ now (out .exit) ≡ bufferOf (sumOutcome (now (first .entry)) (now (second .entry)) (length (now (out .entry)))) (now (out .entry)) ⌝ }
-    ensures words { λ r. ⌜ ((n : ℕ) → r ≡ Written.Done n → Same (lettersOf (now (first .entry))) (symmetricDifference (languageOf (now (first .entry))) (languageOf (now (second .entry)))) (languageOf (take n (now (out .exit))))) ⌝ }
-    ensures form { λ r. ⌜ ((n : ℕ) → r ≡ Written.Done n → MinimalRecord (lettersOf (now (first .entry))) (symmetricDifference (languageOf (now (first .entry))) (languageOf (now (second .entry)))) (take n (now (out .exit)))) ⌝ }
-    ensures limits { λ r. ⌜ Limits (Written.Refused 11 0) maxStates (Operands (now (first .entry)) (now (second .entry))) (IsDimension (lettersOf (now (first .entry))) (symmetricDifference (languageOf (now (first .entry))) (languageOf (now (second .entry))))) r ⌝ }
+    ensures answer { λ r. ⌜ r ≡ answerIn (sumOutcome (now (first .entry)) (now (second .entry))) (now (out .entry)) ⌝ }
+    ensures buffer { λ _. ⌜ now (out .exit) ≡ bufferIn (sumOutcome (now (first .entry)) (now (second .entry))) (now (out .entry)) ⌝ }
+    ensures claims { λ r. ⌜ Sums (now (first .entry)) (now (second .entry)) (now (out .exit)) r ⌝ }
 {
     let p = operands::check_pair(first, second);
     let Pair::Both = p else {
@@ -150,11 +145,9 @@ fn build(k: Unary, bytes: &[u8], s: &mut Table) -> Machine
 
 // An operation on one record: complement and mirror have the same check, limit and writing.
 fn operate(k: Unary, bytes: &[u8], out: &mut [u8]) -> Written
-    ensures answer { λ r. ⌜ r ≡ answerOf (unaryOutcome k (now (bytes .entry)) (length (now (out .entry)))) ⌝ }
-    ensures buffer { λ _. ⌜ now (out .exit) ≡ bufferOf (unaryOutcome k (now (bytes .entry)) (length (now (out .entry)))) (now (out .entry)) ⌝ }
-    ensures words { λ r. ⌜ ((n : ℕ) → r ≡ Written.Done n → Same (lettersOf (now (bytes .entry))) (unaryLanguage k (languageOf (now (bytes .entry)))) (languageOf (take n (now (out .exit))))) ⌝ }
-    ensures form { λ r. ⌜ ((n : ℕ) → r ≡ Written.Done n → MinimalRecord (lettersOf (now (bytes .entry))) (unaryLanguage k (languageOf (now (bytes .entry)))) (take n (now (out .exit)))) ⌝ }
-    ensures limits { λ r. ⌜ Limits (Written.Refused 11 0) maxStates (WellFormed (now (bytes .entry))) (IsDimension (lettersOf (now (bytes .entry))) (unaryLanguage k (languageOf (now (bytes .entry))))) r ⌝ }
+    ensures answer { λ r. ⌜ r ≡ answerIn (unaryOutcome k (now (bytes .entry))) (now (out .entry)) ⌝ }
+    ensures buffer { λ _. ⌜ now (out .exit) ≡ bufferIn (unaryOutcome k (now (bytes .entry))) (now (out .entry)) ⌝ }
+    ensures claims { λ r. ⌜ Operates k (now (bytes .entry)) (now (out .exit)) r ⌝ }
 {
     let c = record::check(bytes);
     let Checked::Good = c else {
@@ -165,24 +158,20 @@ fn operate(k: Unary, bytes: &[u8], out: &mut [u8]) -> Written
     results::finish(&mut s, m, out)
 }
 
-// Writes the minimal record of the words over the record's letters that it does not accept. `words`, `form`, `limits`: as for `sum`.
+// Writes the minimal record of the words over the record's letters that it does not accept.
 pub fn complement(bytes: &[u8], out: &mut [u8]) -> Written
-    ensures answer { λ r. ⌜ r ≡ answerOf (complementOutcome (now (bytes .entry)) (length (now (out .entry)))) ⌝ }
-    ensures buffer { λ _. ⌜ now (out .exit) ≡ bufferOf (complementOutcome (now (bytes .entry)) (length (now (out .entry)))) (now (out .entry)) ⌝ }
-    ensures words { λ r. ⌜ ((n : ℕ) → r ≡ Written.Done n → Same (lettersOf (now (bytes .entry))) (complement (languageOf (now (bytes .entry)))) (languageOf (take n (now (out .exit))))) ⌝ }
-    ensures form { λ r. ⌜ ((n : ℕ) → r ≡ Written.Done n → MinimalRecord (lettersOf (now (bytes .entry))) (complement (languageOf (now (bytes .entry)))) (take n (now (out .exit)))) ⌝ }
-    ensures limits { λ r. ⌜ Limits (Written.Refused 11 0) maxStates (WellFormed (now (bytes .entry))) (IsDimension (lettersOf (now (bytes .entry))) (complement (languageOf (now (bytes .entry))))) r ⌝ }
+    ensures answer { λ r. ⌜ r ≡ answerIn (complementOutcome (now (bytes .entry))) (now (out .entry)) ⌝ }
+    ensures buffer { λ _. ⌜ now (out .exit) ≡ bufferIn (complementOutcome (now (bytes .entry))) (now (out .entry)) ⌝ }
+    ensures claims { λ r. ⌜ Complements (now (bytes .entry)) (now (out .exit)) r ⌝ }
 {
     operate(Unary::Complement, bytes, out)
 }
 
-// Writes the minimal record of the reversed words. `words`, `form`, `limits`: as for `sum`.
+// Writes the minimal record of the reversed words.
 pub fn mirror(bytes: &[u8], out: &mut [u8]) -> Written
-    ensures answer { λ r. ⌜ r ≡ answerOf (mirrorOutcome (now (bytes .entry)) (length (now (out .entry)))) ⌝ }
-    ensures buffer { λ _. ⌜ now (out .exit) ≡ bufferOf (mirrorOutcome (now (bytes .entry)) (length (now (out .entry)))) (now (out .entry)) ⌝ }
-    ensures words { λ r. ⌜ ((n : ℕ) → r ≡ Written.Done n → Same (lettersOf (now (bytes .entry))) (reversal (languageOf (now (bytes .entry)))) (languageOf (take n (now (out .exit))))) ⌝ }
-    ensures form { λ r. ⌜ ((n : ℕ) → r ≡ Written.Done n → MinimalRecord (lettersOf (now (bytes .entry))) (reversal (languageOf (now (bytes .entry)))) (take n (now (out .exit)))) ⌝ }
-    ensures limits { λ r. ⌜ Limits (Written.Refused 11 0) maxStates (WellFormed (now (bytes .entry))) (IsDimension (lettersOf (now (bytes .entry))) (reversal (languageOf (now (bytes .entry))))) r ⌝ }
+    ensures answer { λ r. ⌜ r ≡ answerIn (mirrorOutcome (now (bytes .entry))) (now (out .entry)) ⌝ }
+    ensures buffer { λ _. ⌜ now (out .exit) ≡ bufferIn (mirrorOutcome (now (bytes .entry))) (now (out .entry)) ⌝ }
+    ensures claims { λ r. ⌜ Mirrors (now (bytes .entry)) (now (out .exit)) r ⌝ }
 {
     operate(Unary::Mirror, bytes, out)
 }

@@ -42,6 +42,14 @@ pub allBytes-one : (w x : ℕ) → allBytes w (x ∷ []) ≡ bytesOf w x
 unfolding allBytes
 allBytes-one w x = append-nil (bytesOf w x)
 
+-- ---- bytes are below 256
+
+pub bytesOf-below : (w x : ℕ) → AllBelow 256 (bytesOf w x)
+unfolding bytesOf
+bytesOf-below zero x i = omega arith
+bytesOf-below (suc w) x zero = omega arith
+bytesOf-below (suc w) x (suc i) = bytesOf-below w (x / 256) i
+
 -- ---- written, then read
 
 -- A number past the front of a list is read in the rest.

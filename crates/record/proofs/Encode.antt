@@ -14,13 +14,28 @@ use Rattle.automata.specs.WordList.{joinBelow}
 use Rattle.automata.specs.Fields.{rowsOf, fields}
 use Rattle.automata.proofs.Mask.{mask-lt, mask-bit, mask-of-bits}
 use Rattle.automata.proofs.Fields.{rows-at, rows-length, rows-same}
-use Rattle.record.specs.Bytes.{number, allBytes, AllBelow}
+use Rattle.record.specs.Bytes.{number, bytesOf, allBytes, AllBelow}
 use Rattle.record.specs.Record.{version, maxStates, maxLetters, rowBytes, initialAt, finalAt, rowsAt, lengthOf, statesOf, lettersOf, rowAt, headOf, encode, automatonOf, WellFormed}
-use Rattle.record.proofs.Bytes.{number-2, length-allBytes, number-written, allBytes-same, bytesOf-number, allBytes-numbers, numbers}
-use Rattle.record.proofs.RowList.{rows-flat, row-lt, rows-below}
+use Rattle.record.proofs.Bytes.{number-2, length-allBytes, bytesOf-below, number-written, allBytes-same, bytesOf-number, allBytes-numbers, numbers}
+use Rattle.record.proofs.RowList.{rows-flat, row-lt, below-append, rows-below}
 use Rattle.record.proofs.Refusals.{Passed, good-check, check-good}
 
 -- ---- an automaton's record
+
+head-below : (n a : ℕ) → n ≤ maxStates → a ≤ maxLetters → AllBelow 256 (headOf n a)
+head-below n a small most zero = omega arith
+head-below n a small most (suc zero) = omega arith
+head-below n a small most (suc (suc zero)) = omega arith
+head-below n a small most (suc (suc (suc zero))) = omega arith
+head-below n a small most (suc (suc (suc (suc zero)))) = omega arith
+head-below n a small most (suc (suc (suc (suc (suc zero))))) = omega arith
+head-below n a small most (suc (suc (suc (suc (suc (suc zero)))))) = omega arith
+head-below n a small most (suc (suc (suc (suc (suc (suc (suc i))))))) = omega arith
+
+allBytes-below : (w : ℕ) (xs : List ℕ) → AllBelow 256 (allBytes w xs)
+unfolding allBytes
+allBytes-below w [] i = omega arith
+allBytes-below w (x ∷ xs) i = below-append 256 (bytesOf w x) (allBytes w xs) (bytesOf-below w x) (allBytes-below w xs) i
 
 module _ (a : ℕ) (A : Automaton) where
   -- I, F and the rows.
@@ -73,6 +88,11 @@ module _ (a : ℕ) (A : Automaton) where
       whole = length-encode;
       below = λ j h. rw (number-encode j h) (numbers-below j);
     })
+
+    -- What is written is bytes.
+    pub bytes-encode : a ≤ maxLetters → AllBelow 256 (encode a A)
+    unfolding encode
+    bytes-encode most = below-append 256 (headOf (A .states) a) (allBytes rowBytes numbersOf) (head-below (A .states) a small most) (allBytes-below rowBytes numbersOf)
 
     -- The automaton read is the one written.
     pub bits-encode : SameBits a (automatonOf (encode a A)) A

@@ -19,7 +19,7 @@ use Rattle.rows.specs.Machine.{automatonIn, Valid}
 use Rattle.rows.proofs.TableLaws.{length-stored, stored-same, stored-block, stored-row}
 use Rattle.record.specs.Bytes.{number, bytesOf, allBytes, AllBelow}
 use Rattle.record.specs.Record.{rowBytes, initialAt, finalAt, rowsAt, lengthOf, statesOf, lettersOf, rowAt, headOf, encode, automatonOf, WellFormed}
-use Rattle.record.specs.Held.{Filled, Holds}
+use Rattle.record.specs.Held.{HeldUpTo, Holds}
 use Rattle.record.proofs.Bytes.{length-bytesOf}
 use Rattle.record.proofs.Stores.{runs, sets-front}
 use Rattle.record.proofs.RowList.{row-lt}
@@ -35,11 +35,11 @@ row-inside bs p e l i hl hi =
     let w = p .whole in
     rw e (omega (arith, row-lt (lettersOf bs) (statesOf bs) l i hl (rw e at hi)))
 
-pub filled-none : (bs t : List ℕ) → length t ≡ tableSize → Filled bs t 0 0
+pub filled-none : (bs t : List ℕ) → length t ≡ tableSize → HeldUpTo bs t 0 0
 filled-none bs t e = record { size = e; letters = λ k j hk hj. absurd (omega arith); states = λ j hj. absurd (omega arith) }
 
 module _ (bs t : List ℕ) (l : ℕ) where
-  pub filled-row : (i v : ℕ) → l < blocks → i < statesOf bs → statesOf bs ≤ width → v ≡ rowAt bs l i → Filled bs t l i → Filled bs (stored t l i v) l (i + 1)
+  pub filled-row : (i v : ℕ) → l < blocks → i < statesOf bs → statesOf bs ≤ width → v ≡ rowAt bs l i → HeldUpTo bs t l i → HeldUpTo bs (stored t l i v) l (i + 1)
   filled-row i v hl hi small e f = record {
     size = length-stored t l i v ∙ f .size;
     letters = λ k j hk hj. stored-block t l i v k j (omega arith) (omega arith) (λ q. omega arith) ∙ f .letters k j hk hj;
@@ -52,7 +52,7 @@ module _ (bs t : List ℕ) (l : ℕ) where
           rw q (stored-same t l i v (f .size) hl (omega arith) ∙ e)
       go j hj (no p) = stored-row t l i v j (λ q. omega (arith, p)) ∙ f .states j (omega arith)
 
-  pub filled-letter : Filled bs t l (statesOf bs) → Filled bs t (l + 1) 0
+  pub filled-letter : HeldUpTo bs t l (statesOf bs) → HeldUpTo bs t (l + 1) 0
   filled-letter f = record {
     size = f .size;
     letters = λ k j hk hj. go k j hk hj (decLe l k);
@@ -66,7 +66,7 @@ module _ (bs t : List ℕ) (l : ℕ) where
       go k j hk hj (no p) = f .letters k j (omega (arith, p)) hj
 
 -- Every letter read: machine and table hold the record.
-pub holds : (bs t : List ℕ) → WellFormed bs → Filled bs t (lettersOf bs) 0 → {n a : ℕ} {i f : Row} → n ≡ statesOf bs → a ≡ lettersOf bs
+pub holds : (bs t : List ℕ) → WellFormed bs → HeldUpTo bs t (lettersOf bs) 0 → {n a : ℕ} {i f : Row} → n ≡ statesOf bs → a ≡ lettersOf bs
     → mask i ≡ number rowBytes bs initialAt → mask f ≡ number rowBytes bs finalAt → Holds bs t (record { states = n; letters = a; initial = i; finals = f })
 holds bs t good full en ea ei ef =
     let p = good-check bs good in

@@ -6,3 +6,4 @@ pub mod Refusals
 pub mod Encode
 pub mod Held
 pub mod Outcome
+pub mod Claims

@@ -24,7 +24,7 @@ pub row-lt : (a n l i : ℕ) → l < a → i < n → l * n + i < a * n
 row-lt a n l i hl hi = lt-of-lt-of-le {m = l * n + n} (omega arith) (rw suc-mul at (mul-le-mul-right n hl))
 
 -- Members below m, end to end.
-below-append : (m : ℕ) (xs ys : List ℕ) → AllBelow m xs → AllBelow m ys → AllBelow m (xs ++ ys)
+pub below-append : (m : ℕ) (xs ys : List ℕ) → AllBelow m xs → AllBelow m ys → AllBelow m (xs ++ ys)
 below-append m [] ys hx hy i = hy i
 below-append m (x ∷ xs) ys hx hy zero = hx 0
 below-append m (x ∷ xs) ys hx hy (suc i) = below-append m xs ys (λ j. hx (suc j)) hy i

@@ -1,6 +1,6 @@
 -- A record in memory: a machine, and a lent table for its rows.
---   Filled bs t l i    the table has the record's rows up to, not including, that of letter l and state i
---   Holds bs t m       machine and table have all that the record has
+--   HeldUpTo bs t l i    the table has the record's rows up to, not including, that of letter l and state i
+--   Holds bs t m         machine and table have all that the record has
 use mathlib.Core.Path.{_≡_}
 use mathlib.Core.List.{List}
 use Prim.Native.Nat.{ℕ, _<_}
@@ -12,7 +12,7 @@ use Rattle.rows.specs.Machine.{Valid}
 use Rattle.record.specs.Bytes.{number}
 use Rattle.record.specs.Record.{rowBytes, initialAt, finalAt, statesOf, lettersOf, rowAt}
 
-pub record Filled (bs t : List ℕ) (l i : ℕ) : Type 0 where
+pub record HeldUpTo (bs t : List ℕ) (l i : ℕ) : Type 0 where
   pub size : length t ≡ size
   pub letters : (k j : ℕ) → k < l → j < statesOf bs → at t k j ≡ rowAt bs k j
   pub states : (j : ℕ) → j < i → at t l j ≡ rowAt bs l j

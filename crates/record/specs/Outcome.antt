@@ -2,6 +2,8 @@
 --   Outcome         a refusal by number, record and place, or the bytes written from the buffer's start
 --   answerOf        what the service returns
 --   bufferOf        what the buffer holds afterwards
+--   answerIn        the same two of a service whose outcome goes by the room in its buffer
+--   bufferIn
 --   refusalOf       the answer to a record that the check refuses
 --   checked         the check of a record, then what follows
 --   fit             row 12 of the refusal table
@@ -29,6 +31,12 @@ answerOf (wrote out) = Done (length out)
 abbrev pub bufferOf : Outcome → List ℕ → List ℕ
 bufferOf (refused number which place) buf = buf
 bufferOf (wrote out) buf = out ++ drop (length out) buf
+
+abbrev pub answerIn : (ℕ → Outcome) → List ℕ → Written
+answerIn o buf = answerOf (o (length buf))
+
+abbrev pub bufferIn : (ℕ → Outcome) → List ℕ → List ℕ
+bufferIn o buf = bufferOf (o (length buf)) buf
 
 abbrev pub refusalOf : Checked → ℕ → Written
 refusalOf Good which = Done 0

@@ -5,7 +5,12 @@
 --   ofTested       the test of a word: value 1 where it is accepted
 --   ofMinimised    the minimal service: the bytes written, and the dimension as value
 --   ofCompared     a comparison: value 0 where the languages are the same, else the record that accepts the word; its letters as length
-use Prim.Native.Nat.{ℕ}
+--   writtenIn      the answer that a host reads off a reply: the inverse of ofWritten, of ofMinimised and of ofCompared on the answers that come
+--   minimisedIn
+--   comparedIn
+use mathlib.Core.Bool.{cond}
+use Prim.Native.Nat.{ℕ, zero, suc}
+use lib.Dec.{eqb}
 use Rattle.replies.specs.declared.Reply.{Reply}
 use Rattle.record.specs.declared.Checked.{Checked}
 use Rattle.record.specs.declared.Checked.the-variants.{Good, Refused as NotGood}
@@ -58,3 +63,21 @@ abbrev pub ofCompared : Compared → Reply
 ofCompared Same = reply 0 0 0 0 0
 ofCompared (Differs length side) = reply 0 0 0 length (sideNumber side)
 ofCompared (NotCompared number which place) = refusal number which place
+
+-- ---- the answer behind a reply
+
+-- Number 0 grants.
+abbrev pub writtenIn : Reply → Written
+writtenIn r = cond (eqb (r .number) 0) (Wrote (r .length)) (NotWritten (r .number) (r .«record») (r .place))
+
+abbrev pub minimisedIn : Reply → Minimised
+minimisedIn r = cond (eqb (r .number) 0) (Minimal (r .length) (r .value)) (NotMinimised (r .number) (r .«record») (r .place))
+
+-- The value names the record that accepts the word, 0 none.
+abbrev pub verdictIn : ℕ → ℕ → Compared
+verdictIn zero length = Same
+verdictIn (suc zero) length = Differs length First
+verdictIn (suc (suc k)) length = Differs length Second
+
+abbrev pub comparedIn : Reply → Compared
+comparedIn r = cond (eqb (r .number) 0) (verdictIn (r .value) (r .length)) (NotCompared (r .number) (r .«record») (r .place))

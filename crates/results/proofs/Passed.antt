@@ -1,41 +1,19 @@
 -- When the checks of two records have passed: where a service writes, or refuses and names neither of them.
 use mathlib.Core.Path.{_≡_, refl, ap, _∙_}
-use mathlib.Core.Bool.{Bool, true, false, cond}
 use mathlib.Core.List.{List}
 use Prim.Native.Nat.{ℕ, _≤_}
 use native.Mathlib.Omega.{arith}
-use lib.Dec.{eqb}
-use Rattle.record.specs.Record.{maxLetters, lettersOf, checkOf, WellFormed}
+use Rattle.record.specs.Record.{maxLetters, lettersOf, WellFormed}
 use Rattle.record.specs.Outcome.{Outcome, refused, wrote}
-use Rattle.record.specs.declared.Checked.{Checked}
-use Rattle.record.specs.declared.Checked.the-variants.{Good, Refused as Wrong}
 use Rattle.record.proofs.Refusals.{good-check}
-use Rattle.operands.specs.Operands.{named, pairOf, afterPair}
+use Rattle.operands.specs.Operands.{pairOf, afterPair, Operands}
 use Rattle.operands.specs.declared.Pair.{Pair}
 use Rattle.operands.specs.declared.Pair.the-variants.{Both, Refused as Bad}
-use Rattle.operands.proofs.PairLaws.{both-pass, both-passed}
-use Rattle.results.specs.Results.{Operands}
+use Rattle.operands.proofs.PairLaws.{both-pass, both-passed, pair-named}
 
 -- The letters of a well-formed record.
 pub sizes : (bs : List ℕ) → WellFormed bs → (1 ≤ lettersOf bs) × (lettersOf bs ≤ maxLetters)
 sizes bs good = let f = good-check bs good .front in (f .some, f .letters)
-
--- A refusal of the checks of two records names one of them.
-pair-named : (bs cs : List ℕ) (number place : ℕ) → pairOf bs cs ≡ Bad number 0 place → ⊥
-unfolding pairOf
-pair-named bs cs number place e = one (checkOf bs) e
-  where
-    three : (b : Bool) → cond b Both (Bad 8 2 6) ≡ Bad number 0 place → ⊥
-    three true q = let z : _≡_ {A = ℕ} 0 1 = cc in omega arith
-    three false q = let z : _≡_ {A = ℕ} 2 0 = cc in omega arith
-
-    two : (c : Checked) → named c 2 (cond (eqb (lettersOf bs) (lettersOf cs)) Both (Bad 8 2 6)) ≡ Bad number 0 place → ⊥
-    two Good q = three (eqb (lettersOf bs) (lettersOf cs)) q
-    two (Wrong n p) q = let z : _≡_ {A = ℕ} 2 0 = cc in omega arith
-
-    one : (c : Checked) → named c 1 (named (checkOf cs) 2 (cond (eqb (lettersOf bs) (lettersOf cs)) Both (Bad 8 2 6))) ≡ Bad number 0 place → ⊥
-    one Good q = two (checkOf cs) q
-    one (Wrong n p) q = let z : _≡_ {A = ℕ} 1 0 = cc in omega arith
 
 module _ (bs cs : List ℕ) (rest : Outcome) where
   pub pair-wrote : (out : List ℕ) → afterPair (pairOf bs cs) rest ≡ wrote out → Operands bs cs

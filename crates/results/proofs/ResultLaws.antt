@@ -11,25 +11,27 @@ use Rattle.automata.specs.Automaton.{Automaton, accepts}
 use Rattle.automata.specs.Language.{Language, Same}
 use Rattle.automata.specs.Dimension.{IsDimension}
 use Rattle.automata.specs.MinimalOf.{basisWords, minimalOf, dimensionOf}
-use Rattle.automata.proofs.Minimal.{minimal-same, minimal-dimension, same-sym, bits-language}
+use Rattle.automata.proofs.Minimal.{minimal-same, minimal-dimension, same-sym}
 use Rattle.automata.proofs.MinimalOf.{minimal-of}
-use Rattle.automata.proofs.Dimension.{dimension-unique, dimension-least, dimension-same, minimal-language, minimal-states}
+use Rattle.automata.proofs.Dimension.{dimension-unique, dimension-same}
 use Rattle.automata.proofs.Fields.{same-fields}
 use Rattle.rows.specs.declared.Machine.{Machine}
 use Rattle.rows.specs.Row.{mask}
 use Rattle.rows.specs.Machine.{automatonIn}
 use Rattle.rows.proofs.BesideLaws.{if-low, if-high}
 use Rattle.minimisation.specs.Minimises.{Minimises}
-use Rattle.record.specs.Record.{maxStates, maxLetters, statesOf, automatonOf, encode}
+use Rattle.record.specs.Record.{maxStates, maxLetters, encode}
+use Rattle.record.specs.Claims.{MinimalRecord}
 use Rattle.record.specs.Outcome.{Outcome, refused, wrote, answerOf, bufferOf, fit}
 use Rattle.record.specs.declared.Written.{Written}
 use Rattle.record.specs.declared.Written.the-variants.{Done, Refused}
-use Rattle.record.proofs.Encode.{states-encode, letters-encode, check-encode, bits-encode, fields-encode}
+use Rattle.record.proofs.Encode.{fields-encode}
+use Rattle.record.proofs.Claims.{minimal-encode}
 use Rattle.record.proofs.Outcome.{fit-wrote, outcome-take}
-use Rattle.results.specs.Results.{limited, resultOf, MinimalRecord, Limits}
+use Rattle.results.specs.Results.{limited, resultOf, Limits, Gives}
 use Rattle.results.specs.Built.{Built}
 
--- ---- the minimal record of a language
+-- ---- the dimension of a language
 
 -- The dimension of the words that A accepts.
 dimension-language : (a : ℕ) (L : Language) (A : Automaton) → Same a L (accepts A) → IsDimension a L (dimensionOf a A)
@@ -37,25 +39,6 @@ unfolding dimensionOf
 dimension-language a L A same =
     minimal-dimension a L (minimalOf a A) (basisWords a (A .states) (accepts A))
     (minimal-same a (accepts A) L (minimalOf a A) (basisWords a (A .states) (accepts A)) (same-sym a L (accepts A) same) (minimal-of a A))
-
-module _ (a : ℕ) (L : Language) (A : Automaton) (same : Same a L (accepts A)) (small : dimensionOf a A ≤ maxStates) where
-  fits : minimalOf a A .states ≤ maxStates
-  fits = omega (arith, minimal-states a A)
-
-  count : statesOf (encode a (minimalOf a A)) ≡ dimensionOf a A
-  count = states-encode a (minimalOf a A) ∙ minimal-states a A
-
-  result-words : Same a L (accepts (automatonOf (encode a (minimalOf a A))))
-  result-words w ow = same w ow ∙ minimal-language a A w ow ∙ sym (bits-language a (automatonOf (encode a (minimalOf a A))) (minimalOf a A) (bits-encode a (minimalOf a A) fits) w ow)
-
-  result-record : 1 ≤ a → a ≤ maxLetters → MinimalRecord a L (encode a (minimalOf a A))
-  result-record some few = record {
-    formed = check-encode a (minimalOf a A) fits some few;
-    letters = letters-encode a (minimalOf a A);
-    dimension = subst (IsDimension a L) (sym count) (dimension-language a L A same);
-    least = λ B also. subst (λ d. d ≤ B .states) (sym count) (dimension-least a A B (λ w ow. sym (same w ow) ∙ also w ow));
-    bytes = λ B also. fields-encode a (minimalOf a A) (minimalOf a B) (same-fields a A B (λ w ow. sym (same w ow) ∙ also w ow));
-  }
 
 -- ---- rows 11 and 12
 
@@ -129,10 +112,10 @@ module _ (number limit d : ℕ) (rest o : Outcome) (Passed : Type 0) (Measures :
     (passed : Passed → o ≡ cond (ltb limit d) (refused number 0 d) rest)
     (earlier : (k : ℕ) → o ≡ refused number 0 k → Passed)
     (later : (k : ℕ) → rest ≡ refused number 0 k → ⊥)
-    (measure : Measures d) (unique : (k : ℕ) → Measures k → k ≡ d) where
-  pub limits-of : (r : Written) → r ≡ answerOf o → Limits (Refused number 0) limit Passed Measures r
+    (measure : Passed → Measures d) (unique : Passed → (k : ℕ) → Measures k → k ≡ d) where
+  pub limits-of : (r : Written) → r ≡ answerOf o → Limits number limit Passed Measures r
   limits-of r e = record {
-    refuses = λ p k m h. e ∙ ap answerOf (passed p ∙ if-low limit d (refused number 0 d) rest (omega (arith, unique k m))) ∙ ap (λ x. Refused number 0 x) (sym (unique k m));
+    refuses = λ p k m h. e ∙ ap answerOf (passed p ∙ if-low limit d (refused number 0 d) rest (omega (arith, unique p k m))) ∙ ap (λ x. Refused number 0 x) (sym (unique p k m));
     only = λ k q. let h = answer-refused o number 0 k (sym e ∙ q) in let p = earlier k h in go k p (sym (passed p) ∙ h) (decLt limit d);
   }
     where
@@ -140,16 +123,14 @@ module _ (number limit d : ℕ) (rest o : Outcome) (Passed : Type 0) (Measures :
       go k p q (yes h) =
           let z = sym (if-low limit d (refused number 0 d) rest h) ∙ q in
           let w : d ≡ k = cc in
-          (p, subst Measures w measure, omega arith)
+          (p, subst Measures w (measure p), omega arith)
       go k p q (no h) = absurd (later k (sym (if-high limit d (refused number 0 d) rest (omega arith)) ∙ q))
 
 -- ---- what a service promises
 
--- Of an answer r and a buffer at exit: the answer and the buffer, the words, the form, row 11.
+-- Of an answer r and a buffer at exit: the answer and the buffer, and what is claimed over all words.
 abbrev pub Promises : ℕ → Language → Type 0 → Outcome → List ℕ → List ℕ → Written → Type 0
-Promises a L Passed o buf exit r =
-    (r ≡ answerOf o) × ((exit ≡ bufferOf o buf) × (((n : ℕ) → r ≡ Done n → Same a L (accepts (automatonOf (take n exit))))
-    × (((n : ℕ) → r ≡ Done n → MinimalRecord a L (take n exit)) × Limits (Refused 11 0) maxStates Passed (IsDimension a L) r)))
+Promises a L Passed o buf exit r = (r ≡ answerOf o) × ((exit ≡ bufferOf o buf) × Gives a L Passed exit r)
 
 -- A refusal that leaves the buffer, and a result from an automaton in a table.
 abbrev pub Service : ℕ → Language → Type 0 → List ℕ → Outcome → Type 0
@@ -169,27 +150,22 @@ module _ (a : ℕ) (L : Language) (A : Automaton) (same : Same a L (accepts A)) 
       let w = result-wrote a A (length buf) (g .0) (sym (passed p) ∙ g .1) in
       (outcome-take o (g .0) buf n (g .1) (g .2) ∙ w .1, w .0, p)
 
-  limits : (r : Written) → r ≡ answerOf o → Limits (Refused 11 0) maxStates Passed (IsDimension a L) r
+  limits : (r : Written) → r ≡ answerOf o → Limits 11 maxStates Passed (IsDimension a L) r
   unfolding resultOf
   limits = limits-of 11 maxStates (dimensionOf a A) (fit (length buf) (encode a (minimalOf a A))) o Passed (IsDimension a L) passed refuses
       (λ k e. let z = fit-twelve (length buf) (encode a (minimalOf a A)) 11 0 k e in omega arith)
-      (dimension-language a L A same)
-      (λ k m. dimension-unique a L k (dimensionOf a A) m (dimension-language a L A same))
+      (λ p. dimension-language a L A same)
+      (λ p k m. dimension-unique a L k (dimensionOf a A) m (dimension-language a L A same))
 
-  -- The claims follow from the answer and the buffer.
+  -- What is claimed follows from the answer and the buffer.
   promises : (exit : List ℕ) (r : Written) → r ≡ answerOf o → exit ≡ bufferOf o buf → Promises a L Passed o buf exit r
-  promises exit r answer buffer = (answer, (buffer, (words, (form, limits r answer))))
+  promises exit r answer buffer = (answer, (buffer, record { form = form; limits = limits r answer }))
     where
-      words : (n : ℕ) → r ≡ Done n → Same a L (accepts (automatonOf (take n exit)))
-      words n e =
-          let g = granted n (sym answer ∙ e) in
-          subst (λ x. Same a L (accepts (automatonOf x))) (sym (ap (take n) buffer ∙ g .0)) (result-words a L A same (g .1))
-
       form : (n : ℕ) → r ≡ Done n → MinimalRecord a L (take n exit)
       form n e =
           let g = granted n (sym answer ∙ e) in
           let z = sizes (g .2) in
-          subst (MinimalRecord a L) (sym (ap (take n) buffer ∙ g .0)) (result-record a L A same (g .1) (z .0) (z .1))
+          subst (MinimalRecord a L) (sym (ap (take n) buffer ∙ g .0)) (minimal-encode a (z .0) (z .1) L A same (g .1))
 
   pub service-of : Service a L Passed buf o
   service-of = (

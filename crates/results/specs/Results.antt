@@ -1,20 +1,21 @@
 -- The result of an operation (01: every language operation writes the minimal record of its result; row 11, then 12).
 --   limited d rest          row 11: a dimension over 32 is refused, else the rest decides
 --   resultOf a A room       the minimal record of A's language over a letters, in a buffer of so many bytes: rows 11 and 12
---   refusedAs p             a refusal of the checks of two records, as the answer of an operation
---   MinimalRecord a L out   out is the minimal record of the language L over a letters
---   Operands bs cs          two records that pass the checks
---   Limits refusal limit    exactly when a limit refuses, and with which place
+--   pairRefusal p             a refusal of the checks of two records, as the answer of an operation
+--   Limits number limit     exactly when a limit refuses, and with which place
+--   Gives a L Passed        what an operation is claimed to give once its records pass: the minimal record of L over a letters, or row 11
 use mathlib.Core.Path.{_≡_}
 use mathlib.Core.Bool.{cond}
 use mathlib.Core.List.{List}
-use Prim.Native.Nat.{ℕ, _<_, _≤_}
+use Prim.Native.Nat.{ℕ, _<_}
 use lib.Dec.{ltb}
-use Rattle.automata.specs.Automaton.{Automaton, accepts}
-use Rattle.automata.specs.Language.{Language, Same}
+use lib.ListN.{take}
+use Rattle.automata.specs.Automaton.{Automaton}
+use Rattle.automata.specs.Language.{Language}
 use Rattle.automata.specs.Dimension.{IsDimension}
 use Rattle.automata.specs.MinimalOf.{minimalOf, dimensionOf}
-use Rattle.record.specs.Record.{maxStates, statesOf, lettersOf, WellFormed, encode}
+use Rattle.record.specs.Record.{maxStates, encode}
+use Rattle.record.specs.Claims.{MinimalRecord}
 use Rattle.record.specs.Outcome.{Outcome, refused, fit}
 use Rattle.record.specs.declared.Written.{Written}
 use Rattle.record.specs.declared.Written.the-variants.{Done, Refused}
@@ -30,25 +31,18 @@ unfoldable pub resultOf : ℕ → Automaton → ℕ → Outcome
 resultOf a A room = limited (dimensionOf a A) (fit room (encode a (minimalOf a A)))
 
 -- The checks of two records as an answer.
-abbrev pub refusedAs : Pair → Written
-refusedAs Both = Done 0
-refusedAs (Bad number which place) = Refused number which place
+abbrev pub pairRefusal : Pair → Written
+pairRefusal Both = Done 0
+pairRefusal (Bad number which place) = Refused number which place
 
--- ---- what is promised over all words
-
--- No automaton for L has fewer states, and every one of them has these bytes as its minimal record.
-pub record MinimalRecord (a : ℕ) (L : Language) (out : List ℕ) : Type 0 where
-  pub formed : WellFormed out
-  pub letters : lettersOf out ≡ a
-  pub dimension : IsDimension a L (statesOf out)
-  pub least : (B : Automaton) → Same a L (accepts B) → statesOf out ≤ B .states
-  pub bytes : (B : Automaton) → Same a L (accepts B) → out ≡ encode a (minimalOf a B)
-
--- Two records that pass the checks: well formed, over the same letters.
-abbrev pub Operands : List ℕ → List ℕ → Type 0
-Operands bs cs = WellFormed bs × WellFormed cs × (lettersOf bs ≡ lettersOf cs)
+-- ---- what is claimed over all words
 
 -- The answer r is that refusal exactly where the earlier checks pass and what is measured is over the limit; its place is the measure.
-pub record Limits {Answer : Type 0} (refusal : ℕ → Answer) (limit : ℕ) (Passed : Type 0) (Measures : ℕ → Type 0) (r : Answer) : Type 0 where
-  pub refuses : Passed → (d : ℕ) → Measures d → limit < d → r ≡ refusal d
-  pub only : (d : ℕ) → r ≡ refusal d → Passed × Measures d × (limit < d)
+pub record Limits (number limit : ℕ) (Passed : Type 0) (Measures : ℕ → Type 0) (r : Written) : Type 0 where
+  pub refuses : Passed → (d : ℕ) → Measures d → limit < d → r ≡ Refused number 0 d
+  pub only : (d : ℕ) → r ≡ Refused number 0 d → Passed × Measures d × (limit < d)
+
+-- Where the answer r grants, the bytes written are the minimal record of L; it refuses with 11 exactly where the dimension of L is over 32.
+pub record Gives (a : ℕ) (L : Language) (Passed : Type 0) (exit : List ℕ) (r : Written) : Type 0 where
+  pub form : (n : ℕ) → r ≡ Done n → MinimalRecord a L (take n exit)
+  pub limits : Limits 11 maxStates Passed (IsDimension a L) r

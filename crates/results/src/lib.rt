@@ -1,9 +1,8 @@
 // The common end of the operations: from an automaton in a table to the minimal record of its words, or refusal 11 or 12.
 ghost use mathlib.Core.Path.{_≡_};
-ghost use lib.ListN.{length};
 ghost use Rattle.rows.specs.Machine.{automatonIn, Valid};
-ghost use Rattle.record.specs.Outcome.{answerOf, bufferOf};
-ghost use Rattle.results.specs.Results.{resultOf, refusedAs};
+ghost use Rattle.record.specs.Outcome.{answerIn, bufferIn};
+ghost use Rattle.results.specs.Results.{resultOf, pairRefusal};
 use operands::Pair;
 use record::Written;
 use rows::Machine;
@@ -14,8 +13,8 @@ const MAX_STATES: usize = 32;
 // The minimal record of the automaton of t and m, or refusal 11 or 12. The table t is left with the folded automaton.
 pub fn finish(t: &mut Table, m: Machine, out: &mut [u8]) -> Written
     requires { ⌜ Valid (now t) m ⌝ }
-    ensures answer { λ r. ⌜ r ≡ answerOf (resultOf (m .letters) (automatonIn (now (t .entry)) m) (length (now (out .entry)))) ⌝ }
-    ensures buffer { λ _. ⌜ now (out .exit) ≡ bufferOf (resultOf (m .letters) (automatonIn (now (t .entry)) m) (length (now (out .entry)))) (now (out .entry)) ⌝ }
+    ensures answer { λ r. ⌜ r ≡ answerIn (resultOf (m .letters) (automatonIn (now (t .entry)) m)) (now (out .entry)) ⌝ }
+    ensures buffer { λ _. ⌜ now (out .exit) ≡ bufferIn (resultOf (m .letters) (automatonIn (now (t .entry)) m)) (now (out .entry)) ⌝ }
 {
     let mut b = [0u64; 192];
     let mut c = [0u64; 512];
@@ -33,7 +32,7 @@ pub fn finish(t: &mut Table, m: Machine, out: &mut [u8]) -> Written
 
 // A refusal of the checks, as the answer of an operation.
 pub fn refuse(p: Pair) -> Written
-    ensures { λ r. ⌜ r ≡ refusedAs p ⌝ }
+    ensures { λ r. ⌜ r ≡ pairRefusal p ⌝ }
 {
     match p {
         Pair::Both => Written::Done { length: 0 },

@@ -9,17 +9,17 @@ use borrow.Author.Tests.{eqb-true, leb-true, not-true}
 use Rattle.automata.specs.Automaton.{Automaton, accepts, sumBelow, pathsFrom}
 use Rattle.automata.specs.Word.{Over}
 use Rattle.automata.specs.Language.{Same}
-use Rattle.automata.specs.Dimension.{IsDimension}
-use Rattle.automata.specs.Minimal.{Minimal}
 use Rattle.automata.specs.FirstDifference.{firstDifference}
-use Rattle.automata.proofs.Minimal.{minimal-same, minimal-dimension, sum-cong}
+use Rattle.automata.proofs.Minimal.{sum-cong}
 use Rattle.automata.proofs.Operations.{accepts-sum, accepts-meet, accepts-complement, accepts-mirror}
 use Rattle.automata.proofs.FirstDifference.{difference-none, difference-some}
 use Rattle.record.specs.Record.{statesOf, lettersOf, checkOf, WellFormed, automatonOf, languageOf}
+use Rattle.record.specs.Claims.{MinimalForm}
+use Rattle.record.proofs.Claims.{form-same, minimal-record}
 use Rattle.minimal.specs.Minimal.{minimalBytes}
-use Rattle.minimal.proofs.MinimalLaws.{minimal-record}
-use Rattle.samples.specs.Claims.{Task, minimal, sum, meet, inverse, mirror, lettersFor, languageFor, Gives, Claim, accepted, rejected, paths, speaks, gives, differ, Holds}
-use Rattle.samples.specs.Answers.{automaton}
+use Rattle.minimal.proofs.MinimalLaws.{minimal-bytes}
+use Rattle.samples.specs.Claims.{Task, minimal, sum, meet, inverse, mirror, lettersFor, languageFor, Result, Claim, accepted, rejected, paths, speaks, gives, differ, Means}
+use Rattle.samples.specs.Answers.{automatonFor}
 use Rattle.samples.proofs.Data.{Passed, good-true, same-true, none-true, word-true, allBelow, below-true}
 use Rattle.samples.proofs.Names.{machine, lettersIn, machine-words}
 use Rattle.samples.proofs.Test.{atEnd, steady, tests}
@@ -45,7 +45,7 @@ module _ (a : ℕ) (A : Automaton) (e : steady a A ≡ true) where
 -- ---- results
 
 -- The automaton that the outcome speaks of accepts the result.
-task-words : (t : Task) (a : ℕ) → Same a (languageFor t) (accepts (automaton t))
+task-words : (t : Task) (a : ℕ) → Same a (languageFor t) (accepts (automatonFor t))
 task-words (minimal bs) a w ow = refl
 task-words (sum bs cs) a w ow = sym (accepts-sum (automatonOf bs) (automatonOf cs) w)
 task-words (meet bs cs) a w ow = sym (accepts-meet (automatonOf bs) (automatonOf cs) w)
@@ -65,34 +65,28 @@ module _ (t : Task) (r : List ℕ) (n d : ℕ) (p : Passed (tests (gives t r n d
   pub own : minimalBytes r ≡ r
   own = same-true (minimalBytes r) r (p .1 .1 .1 .1 .0)
 
-  pub same : Same (lettersFor t) (accepts (automaton t)) (languageOf r)
-  same = difference-none (lettersFor t) (automaton t) (automatonOf r) (none-true (firstDifference (lettersFor t) (automaton t) (automatonOf r)) (p .1 .1 .1 .1 .1 .0))
+  pub same : Same (lettersFor t) (accepts (automatonFor t)) (languageOf r)
+  same = difference-none (lettersFor t) (automatonFor t) (automatonOf r) (none-true (firstDifference (lettersFor t) (automatonFor t) (automatonOf r)) (p .1 .1 .1 .1 .1 .0))
 
   result : Same (lettersFor t) (languageFor t) (languageOf r)
   result w ow = task-words t (lettersFor t) w ow ∙ same w ow
 
   -- The record is its own minimal record, so it is one for the language of the result.
-  least : (ws : List (List ℕ)) × Minimal (lettersFor t) (languageFor t) (automatonOf r) ws
-  least =
-      let m = minimal-record r formed .basis in
-      let one : Minimal (lettersOf r) (languageOf r) (automatonOf r) (m .0) = subst (λ x. Minimal (lettersOf r) (languageOf r) (automatonOf x) (m .0)) own (m .1) in
-      let two : Minimal (lettersFor t) (languageOf r) (automatonOf r) (m .0) = subst (λ a. Minimal a (languageOf r) (automatonOf r) (m .0)) over one in
-      (m .0, minimal-same (lettersFor t) (languageOf r) (languageFor t) (automatonOf r) (m .0) (λ w ow. sym (result w ow)) two)
+  result-form : MinimalForm (lettersFor t) (languageFor t) r
+  result-form =
+      let m = subst (MinimalForm (lettersOf r) (languageOf r)) own (minimal-bytes r formed .0 .form) in
+      form-same (lettersFor t) (languageOf r) (languageFor t) r (λ w ow. sym (result w ow)) (subst (λ a. MinimalForm a (languageOf r) r) over m)
 
-  gives-holds : Gives t r n d
+  gives-holds : Result t r n d
   gives-holds = record {
     size = eqb-true (length r) n (p .1 .1 .1 .1 .1 .1 .0);
-    formed = formed;
-    letters = over;
-    words = result;
-    basis = least .0;
-    minimal = least .1;
-    dimension = subst (IsDimension (lettersFor t) (languageFor t)) (sym (least .1 .size) ∙ states) (minimal-dimension (lettersFor t) (languageFor t) (automatonOf r) (least .0) (least .1));
+    minimal = minimal-record (lettersFor t) (languageFor t) r result-form;
+    dimension = states;
   }
 
 -- ---- each claim
 
-pub holds : (c : Claim) → Passed (tests c) → Holds c
+pub holds : (c : Claim) → Passed (tests c) → Means c
 holds (accepted bs w) p = p .1 .1 .0
 holds (rejected bs w) p = not-true (accepts (automatonOf bs) w) (p .1 .1 .0)
 holds (paths bs k) p = λ w ow.

@@ -15,9 +15,9 @@ use Rattle.automata.proofs.Shortlex.{over-reverse}
 use Rattle.automata.proofs.Acceptance.{from-nil, from-cons, accepts-row}
 use Rattle.automata.proofs.Operations.{accepts-mirror}
 use Rattle.record.specs.Record.{automatonOf}
-use Rattle.catalogue.specs.Words.{endsInOne, wordsOf}
+use Rattle.catalogue.specs.Words.{endsInOne, entryWords}
 use Rattle.catalogue.specs.Entries.{last, lettersAt, recordOf}
-use Rattle.catalogue.proofs.Records.{record-words}
+use Rattle.catalogue.proofs.Records.{record-claims}
 use Rattle.samples.specs.Languages.{beginsWithOne, repeats, Named, entry, beginning, star, wordsIn}
 
 -- ---- automata by name
@@ -64,11 +64,11 @@ loop-from k [] i = from-nil (loop k) i
 loop-from k (l ∷ w) i = from-cons (loop k) l w i ∙ ap (λ b. eqb l k && b) (loop-from k w 0)
 
 whole : (s : Named) → known s ≡ true → Same (lettersIn s) (wordsIn s) (accepts (machine s))
-unfolding wordsOf lettersAt
-whole (entry j) e w ow = record-words j (leb-true j last e) w ow
+unfolding entryWords lettersAt
+whole (entry j) e w ow = record-claims j (leb-true j last e) .words w ow
 whole beginning e w ow =
     sym (ends-reverse w)
-    ∙ record-words 3 (omega arith) (reverse w) (over-reverse 2 w ow)
+    ∙ record-claims 3 (omega arith) .words (reverse w) (over-reverse 2 w ow)
     ∙ sym (accepts-mirror (automatonOf (recordOf 3)) w)
 whole (star k) e w ow = sym (accepts-row (loop k) w ∙ loop-from k w 0)
 

@@ -3,7 +3,7 @@ use mathlib.Core.Path.{_≡_}
 use mathlib.Core.Bool.{true}
 use mathlib.Core.List.{List, [], _∷_}
 use Rattle.automata.proofs.Span.{and-parts}
-use Rattle.samples.specs.Claims.{Claim, Holds}
+use Rattle.samples.specs.Claims.{Claim, Means}
 use Rattle.samples.specs.Table.{samples, Every}
 use Rattle.samples.specs.Answers.{Returned}
 use Rattle.samples.proofs.Data.{Passed, every, every-true}
@@ -21,8 +21,8 @@ module _ (P : Claim → Type 0) (law : (c : Claim) → Passed (tests c) → P c)
   all [] e = tt
   all (s ∷ ss) e = (each s (e .0), all ss (e .1))
 
-pub samples-hold : Every (Every Holds) samples
-samples-hold = all Holds holds samples table-passes
+pub samples-hold : Every (Every Means) samples
+samples-hold = all Means holds samples table-passes
 
 pub samples-returned : Every (Every Returned) samples
 samples-returned = all Returned returned samples table-passes

@@ -1,6 +1,6 @@
 -- A claim that passes its tests is one of what the services return.
 use mathlib.Core.Path.{_≡_, refl, sym, ap, ap₂, _∙_}
-use mathlib.Core.Bool.{Bool, true, false, false≢true}
+use mathlib.Core.Bool.{Bool, true, false}
 use mathlib.Core.List.{List, [], _∷_}
 use mathlib.Core.Option.{some}
 use Prim.Native.Nat.{ℕ, _+_, _*_}
@@ -8,7 +8,6 @@ use native.Mathlib.Omega.{arith}
 use lib.Dec.{leb}
 use lib.ListN.{length}
 use borrow.Author.Tests.{leb-true, lt-leb}
-use Rattle.automata.specs.Xor.{_⊕_}
 use Rattle.automata.specs.Automaton.{odd, accepts}
 use Rattle.automata.specs.Word.{Over}
 use Rattle.automata.specs.MinimalOf.{minimalOf, dimensionOf}
@@ -25,17 +24,17 @@ use Rattle.record.proofs.Outcome.{fit-done, fit-short}
 use Rattle.operands.specs.Operands.{pairOf, afterPair}
 use Rattle.testing.specs.Testing.{foreignFrom, testOf}
 use Rattle.minimal.specs.Minimal.{minimalBytes, minimalOutcome}
-use Rattle.minimal.proofs.MinimalLaws.{minimal-record}
-use Rattle.compare.specs.Compare.{sideOf, acceptorOf, differenceOf, compareOutcome, comparedAs}
+use Rattle.minimal.proofs.MinimalLaws.{minimal-bytes}
+use Rattle.compare.specs.Compare.{sideOf, differenceOf, compareOutcome, comparedAs}
 use Rattle.compare.specs.declared.Side.{Side}
-use Rattle.compare.specs.declared.Side.the-variants.{First, Second}
 use Rattle.compare.specs.declared.Compared.the-variants.{Differs}
 use Rattle.compare.proofs.CompareLaws.{outcome-word}
+use Rattle.compare.proofs.Claims.{side-named}
 use Rattle.results.specs.Results.{resultOf}
 use Rattle.operations.specs.Operations.{sumOutcome, unaryOutcome}
 use Rattle.intersection.specs.Meet.{maxProduct, crossing, meetOutcome}
 use Rattle.samples.specs.Claims.{Task, minimal, sum, meet, inverse, mirror, lettersFor, Claim, accepted, rejected, paths, speaks, gives, differ}
-use Rattle.samples.specs.Answers.{automaton, outcomeOf, verdict, Returned}
+use Rattle.samples.specs.Answers.{automatonFor, outcomeOf, verdict, Returned}
 use Rattle.samples.proofs.Data.{Passed, good-true, both, both-true, word-true}
 use Rattle.samples.proofs.Test.{tests}
 use Rattle.samples.proofs.Meaning.{formed, over, states, own, same, holds}
@@ -57,54 +56,45 @@ module _ (t : Task) (r : List ℕ) (n d : ℕ) (p : Passed (tests (gives t r n d
   abbrev a : ℕ
   a = lettersFor t
 
-  dimension : dimensionOf a (automaton t) ≡ d
+  dimension : dimensionOf a (automatonFor t) ≡ d
   dimension =
-      dimension-same a (automaton t) (automatonOf r) (same t r n d p)
+      dimension-same a (automatonFor t) (automatonOf r) (same t r n d p)
       ∙ ap (λ x. dimensionOf x (automatonOf r)) (sym (over t r n d p))
-      ∙ sym (minimal-record r (formed t r n d p) .form .2)
+      ∙ sym (minimal-bytes r (formed t r n d p) .1)
       ∙ ap statesOf (own t r n d p)
       ∙ states t r n d p
 
-  minimal-bytes : encode a (minimalOf a (automaton t)) ≡ r
+  written-bytes : encode a (minimalOf a (automatonFor t)) ≡ r
   unfolding minimalBytes
-  minimal-bytes =
-      fields-encode a (minimalOf a (automaton t)) (minimalOf a (automatonOf r)) (same-fields a (automaton t) (automatonOf r) (same t r n d p))
+  written-bytes =
+      fields-encode a (minimalOf a (automatonFor t)) (minimalOf a (automatonOf r)) (same-fields a (automatonFor t) (automatonOf r) (same t r n d p))
       ∙ ap (λ x. encode x (minimalOf x (automatonOf r))) (sym (over t r n d p))
       ∙ own t r n d p
 
   -- Row 11 passes.
-  result : (room : ℕ) → resultOf a (automaton t) room ≡ fit room r
+  result : (room : ℕ) → resultOf a (automatonFor t) room ≡ fit room r
   unfolding resultOf
   result room =
-      let e : ℕ = dimensionOf a (automaton t) in
-      if-high maxStates e (refused 11 0 e) (fit room (encode a (minimalOf a (automaton t)))) (omega (arith, dimension, states t r n d p, good-check r (formed t r n d p) .front .states))
-      ∙ ap (fit room) minimal-bytes
+      let e : ℕ = dimensionOf a (automatonFor t) in
+      if-high maxStates e (refused 11 0 e) (fit room (encode a (minimalOf a (automatonFor t)))) (omega (arith, dimension, states t r n d p, good-check r (formed t r n d p) .front .states))
+      ∙ ap (fit room) written-bytes
 
 -- The checks pass, for meet row 10 too.
 outcome : (t : Task) (r : List ℕ) (n d : ℕ) → Passed (tests (gives t r n d)) → (room : ℕ) → outcomeOf t room ≡ fit room r
 unfolding minimalBytes minimalOutcome sumOutcome meetOutcome unaryOutcome
-outcome (minimal bs) r n d p room = ap (λ c. checked c 1 (fit room (minimalBytes bs))) (good-true (checkOf bs) (p .0)) ∙ ap (fit room) (minimal-bytes (minimal bs) r n d p)
-outcome (sum bs cs) r n d p room = ap (λ c. afterPair c (resultOf (lettersOf bs) (automaton (sum bs cs)) room)) (both-true (pairOf bs cs) (p .0)) ∙ result (sum bs cs) r n d p room
+outcome (minimal bs) r n d p room = ap (λ c. checked c 1 (fit room (minimalBytes bs))) (good-true (checkOf bs) (p .0)) ∙ ap (fit room) (written-bytes (minimal bs) r n d p)
+outcome (sum bs cs) r n d p room = ap (λ c. afterPair c (resultOf (lettersOf bs) (automatonFor (sum bs cs)) room)) (both-true (pairOf bs cs) (p .0)) ∙ result (sum bs cs) r n d p room
 outcome (meet bs cs) r n d p room =
     let e : ℕ = dimensionOf (lettersOf bs) (automatonOf bs) * dimensionOf (lettersOf bs) (automatonOf cs) in
-    let rest : Outcome = resultOf (lettersOf bs) (automaton (meet bs cs)) room in
+    let rest : Outcome = resultOf (lettersOf bs) (automatonFor (meet bs cs)) room in
     let t = and-parts (both (pairOf bs cs)) (leb e maxProduct) (p .0) in
     ap (λ c. afterPair c (crossing e rest)) (both-true (pairOf bs cs) (t .0))
     ∙ if-high maxProduct e (refused 10 0 e) rest (leb-true e maxProduct (t .1))
     ∙ result (meet bs cs) r n d p room
-outcome (inverse bs) r n d p room = ap (λ c. checked c 1 (resultOf (lettersOf bs) (automaton (inverse bs)) room)) (good-true (checkOf bs) (p .0)) ∙ result (inverse bs) r n d p room
-outcome (mirror bs) r n d p room = ap (λ c. checked c 1 (resultOf (lettersOf bs) (automaton (mirror bs)) room)) (good-true (checkOf bs) (p .0)) ∙ result (mirror bs) r n d p room
+outcome (inverse bs) r n d p room = ap (λ c. checked c 1 (resultOf (lettersOf bs) (automatonFor (inverse bs)) room)) (good-true (checkOf bs) (p .0)) ∙ result (inverse bs) r n d p room
+outcome (mirror bs) r n d p room = ap (λ c. checked c 1 (resultOf (lettersOf bs) (automatonFor (mirror bs)) room)) (good-true (checkOf bs) (p .0)) ∙ result (mirror bs) r n d p room
 
 -- ---- the comparison
-
--- Just one of the two accepts the word, and the side named does.
-side-of : (s : Side) (bs cs w : List ℕ) → languageOf (acceptorOf s bs cs) w ≡ true → languageOf bs w ⊕ languageOf cs w ≡ true → sideOf (languageOf bs w) ≡ s
-side-of First bs cs w h e = ap sideOf h
-side-of Second bs cs w h e = ap sideOf (other (languageOf bs w) (ap (λ b. languageOf bs w ⊕ b) (sym h) ∙ e))
-  where
-    other : (b : Bool) → b ⊕ true ≡ true → b ≡ false
-    other true q = absurd (false≢true q)
-    other false q = refl
 
 differs : (bs cs w : List ℕ) (s : Side) → Passed (tests (differ bs cs w s)) → Returned (differ bs cs w s)
 unfolding differenceOf
@@ -112,7 +102,7 @@ differs bs cs w s p =
     let found : differenceOf bs cs ≡ some w = word-true w (differenceOf bs cs) (p .1 .0) in
     let word : (room : ℕ) → compareOutcome bs cs room ≡ fit room w = λ room. outcome-word bs cs room (both-true (pairOf bs cs) (p .0)) w found in
     let first = holds (differ bs cs w s) p in
-    let side : sideOf (languageOf bs w) ≡ s = side-of s bs cs w (first .1) (first .0 .differs) in (
+    let side : sideOf (languageOf bs w) ≡ s = side-named bs cs w s (first .0 .differs) (first .1) in (
       word,
       λ room h. ap₂ (λ x o. comparedAs x (automatonOf bs) o) found (word room ∙ fit-done room w refl h) ∙ ap (Differs (length w)) side,
       λ room h. ap₂ (λ x o. comparedAs x (automatonOf bs) o) found (word room ∙ fit-short room w refl h),

@@ -18,7 +18,7 @@ use Rattle.intersection.specs.Meet.{maxProduct}
 use Rattle.catalogue.specs.Entries.{entryOf, lettersAt, recordOf}
 use Rattle.samples.specs.Claims.{Task, minimal, sum, meet, inverse, mirror, lettersFor, Claim, accepted, rejected, paths, speaks, gives, differ}
 use Rattle.samples.specs.Table.{x12, x, noStates, oneState, twoPaths, zeroStar, oneStar, cycle, starSum, firstOne, samples, Every}
-use Rattle.samples.specs.Answers.{automaton}
+use Rattle.samples.specs.Answers.{automatonFor}
 use Rattle.samples.proofs.Data.{every, good, both, sameList, noWord, isWord, allBelow}
 use Rattle.samples.proofs.Names.{machine, lettersIn, known}
 
@@ -62,7 +62,7 @@ tests (gives t r n d) =
     ∷ eqb (lettersOf r) (lettersFor t)
     ∷ eqb (statesOf r) d
     ∷ sameList (minimalBytes r) r
-    ∷ noWord (firstDifference (lettersFor t) (automaton t) (automatonOf r))
+    ∷ noWord (firstDifference (lettersFor t) (automatonFor t) (automatonOf r))
     ∷ eqb (length r) n
     ∷ []
 tests (differ bs cs w s) =

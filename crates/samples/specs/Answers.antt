@@ -1,10 +1,10 @@
 -- The claims read through the services' contracts: what each says of what a service returns and leaves in the lent buffer.
---   automaton t                  the automaton that the service's outcome speaks of
+--   automatonFor t               the automaton that the service's outcome speaks of
 --   outcomeOf t                  what the service does with a buffer of so many bytes
 --   Served t r d                 it writes the record r, or refuses by row 12; the minimal service returns the dimension d besides
 --   Returned c                   what the claim says of the services
 --   Wrote r buf w exit           of one call, with its answer w and the buffer at its end: the record r into buf, or row 12
---   Minimises r d buf w exit     the same of the minimal service
+--   WroteMinimal r d buf w exit  the same of the minimal service
 use mathlib.Core.Path.{_≡_}
 use mathlib.Core.Bool.{Bool, cond}
 use mathlib.Core.List.{List}
@@ -22,19 +22,19 @@ use Rattle.testing.specs.declared.Tested.{Tested}
 use Rattle.testing.specs.declared.Tested.the-variants.{Accepted, Rejected}
 use Rattle.minimal.specs.Minimal.{minimalOutcome, minimisedAs}
 use Rattle.minimal.specs.declared.Minimised.{Minimised}
-use Rattle.compare.specs.Compare.{differenceOf, compareOutcome, comparedAs}
+use Rattle.compare.specs.Compare.{compareOutcome, compareAnswer}
 use Rattle.compare.specs.declared.Compared.the-variants.{Differs, Refused as Withheld}
 use Rattle.operations.specs.Operations.{sumOutcome, complementOutcome, mirrorOutcome}
 use Rattle.intersection.specs.Meet.{meetOutcome}
 use Rattle.samples.specs.Languages.{wordsIn}
 use Rattle.samples.specs.Claims.{Task, minimal, sum, meet, inverse, mirror, lettersFor, Claim, accepted, rejected, paths, speaks, gives, differ}
 
-abbrev pub automaton : Task → Automaton
-automaton (minimal bs) = automatonOf bs
-automaton (sum bs cs) = sumOf (automatonOf bs) (automatonOf cs)
-automaton (meet bs cs) = meetOf (automatonOf bs) (automatonOf cs)
-automaton (inverse bs) = complementOf (automatonOf bs)
-automaton (mirror bs) = mirrorOf (automatonOf bs)
+abbrev pub automatonFor : Task → Automaton
+automatonFor (minimal bs) = automatonOf bs
+automatonFor (sum bs cs) = sumOf (automatonOf bs) (automatonOf cs)
+automatonFor (meet bs cs) = meetOf (automatonOf bs) (automatonOf cs)
+automatonFor (inverse bs) = complementOf (automatonOf bs)
+automatonFor (mirror bs) = mirrorOf (automatonOf bs)
 
 abbrev pub outcomeOf : Task → ℕ → Outcome
 outcomeOf (minimal bs) = minimalOutcome bs
@@ -45,7 +45,7 @@ outcomeOf (mirror bs) = mirrorOutcome bs
 
 pub record Served (t : Task) (r : List ℕ) (d : ℕ) : Type 0 where
   pub bytes : (room : ℕ) → outcomeOf t room ≡ fit room r
-  pub dimension : dimensionOf (lettersFor t) (automaton t) ≡ d
+  pub dimension : dimensionOf (lettersFor t) (automatonFor t) ≡ d
 
 abbrev pub verdict : Bool → Tested
 verdict b = cond b Accepted Rejected
@@ -58,13 +58,13 @@ Returned (speaks bs s) = (w : List ℕ) → Over (lettersOf bs) w → testOf bs 
 Returned (gives t r n d) = Served t r d
 Returned (differ bs cs w s) =
     ((room : ℕ) → compareOutcome bs cs room ≡ fit room w)
-    × ((room : ℕ) → length w ≤ room → comparedAs (differenceOf bs cs) (automatonOf bs) (compareOutcome bs cs room) ≡ Differs (length w) s)
-    × ((room : ℕ) → room < length w → comparedAs (differenceOf bs cs) (automatonOf bs) (compareOutcome bs cs room) ≡ Withheld 12 0 (length w))
+    × ((room : ℕ) → length w ≤ room → compareAnswer bs cs room ≡ Differs (length w) s)
+    × ((room : ℕ) → room < length w → compareAnswer bs cs room ≡ Withheld 12 0 (length w))
 
 -- ---- a call
 
 abbrev pub Wrote : List ℕ → List ℕ → Written → List ℕ → Type 0
 Wrote r buf w exit = (w ≡ answerOf (fit (length buf) r)) × (exit ≡ bufferOf (fit (length buf) r) buf)
 
-abbrev pub Minimises : List ℕ → ℕ → List ℕ → Minimised → List ℕ → Type 0
-Minimises r d buf w exit = (w ≡ minimisedAs d (answerOf (fit (length buf) r))) × (exit ≡ bufferOf (fit (length buf) r) buf)
+abbrev pub WroteMinimal : List ℕ → ℕ → List ℕ → Minimised → List ℕ → Type 0
+WroteMinimal r d buf w exit = (w ≡ minimisedAs d (answerOf (fit (length buf) r))) × (exit ≡ bufferOf (fit (length buf) r) buf)

@@ -2,9 +2,9 @@
 --   Task             what a service that writes a record is asked for
 --   lettersFor t     how many letters its result has
 --   languageFor t    the language of its result
---   Gives t r n d    the record r, of n bytes, is the minimal record of that language, and d its dimension
+--   Result t r n d   the record r, of n bytes, is the minimal record of that language, and d its dimension
 --   Claim            what a sample says
---   Holds c          that it is so
+--   Means c          what that means, over all words
 use mathlib.Core.Path.{_≡_}
 use mathlib.Core.Bool.{true, false}
 use mathlib.Core.List.{List}
@@ -13,11 +13,9 @@ use lib.ListN.{length}
 use Rattle.automata.specs.Automaton.{pathCount}
 use Rattle.automata.specs.Word.{Over}
 use Rattle.automata.specs.Language.{Language, Same, symmetricDifference, intersection, complement, reversal}
-use Rattle.automata.specs.Dimension.{IsDimension}
-use Rattle.automata.specs.Minimal.{Minimal}
-use Rattle.automata.specs.FirstDifference.{FirstDifference}
-use Rattle.record.specs.Record.{lettersOf, WellFormed, automatonOf, languageOf}
-use Rattle.compare.specs.Compare.{acceptorOf}
+use Rattle.record.specs.Record.{statesOf, lettersOf, automatonOf, languageOf}
+use Rattle.record.specs.Claims.{MinimalRecord}
+use Rattle.compare.specs.Compare.{Differ}
 use Rattle.compare.specs.declared.Side.{Side}
 use Rattle.samples.specs.Languages.{Named, wordsIn}
 
@@ -43,14 +41,10 @@ languageFor (meet bs cs) = intersection (languageOf bs) (languageOf cs)
 languageFor (inverse bs) = complement (languageOf bs)
 languageFor (mirror bs) = reversal (languageOf bs)
 
-pub record Gives (t : Task) (r : List ℕ) (n d : ℕ) : Type 0 where
+pub record Result (t : Task) (r : List ℕ) (n d : ℕ) : Type 0 where
   pub size : length r ≡ n
-  pub formed : WellFormed r
-  pub letters : lettersOf r ≡ lettersFor t
-  pub words : Same (lettersFor t) (languageFor t) (languageOf r)
-  pub basis : List (List ℕ)
-  pub minimal : Minimal (lettersFor t) (languageFor t) (automatonOf r) basis
-  pub dimension : IsDimension (lettersFor t) (languageFor t) d
+  pub minimal : MinimalRecord (lettersFor t) (languageFor t) r
+  pub dimension : statesOf r ≡ d
 
 pub data Claim : Type 0 where
   -- The record accepts the word, or rejects it.
@@ -65,10 +59,10 @@ pub data Claim : Type 0 where
   -- The first word that just one of two records accepts, and the side that does.
   differ : List ℕ → List ℕ → List ℕ → Side → Claim
 
-abbrev pub Holds : Claim → Type 0
-Holds (accepted bs w) = languageOf bs w ≡ true
-Holds (rejected bs w) = languageOf bs w ≡ false
-Holds (paths bs k) = (w : List ℕ) → Over (lettersOf bs) w → pathCount (automatonOf bs) w ≡ k
-Holds (speaks bs s) = Same (lettersOf bs) (wordsIn s) (languageOf bs)
-Holds (gives t r n d) = Gives t r n d
-Holds (differ bs cs w s) = FirstDifference (lettersOf bs) (languageOf bs) (languageOf cs) w × (languageOf (acceptorOf s bs cs) w ≡ true)
+abbrev pub Means : Claim → Type 0
+Means (accepted bs w) = languageOf bs w ≡ true
+Means (rejected bs w) = languageOf bs w ≡ false
+Means (paths bs k) = (w : List ℕ) → Over (lettersOf bs) w → pathCount (automatonOf bs) w ≡ k
+Means (speaks bs s) = Same (lettersOf bs) (wordsIn s) (languageOf bs)
+Means (gives t r n d) = Result t r n d
+Means (differ bs cs w s) = Differ bs cs w s

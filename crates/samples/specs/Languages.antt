@@ -8,7 +8,7 @@ use mathlib.Core.List.{[], _∷_}
 use Prim.Native.Nat.{ℕ}
 use lib.Dec.{eqb}
 use Rattle.automata.specs.Language.{Language}
-use Rattle.catalogue.specs.Words.{wordsOf}
+use Rattle.catalogue.specs.Words.{entryWords}
 
 abbrev pub beginsWithOne : Language
 beginsWithOne [] = false
@@ -24,6 +24,6 @@ pub data Named : Type 0 where
   star : ℕ → Named
 
 abbrev pub wordsIn : Named → Language
-wordsIn (entry j) = wordsOf j
+wordsIn (entry j) = entryWords j
 wordsIn beginning = beginsWithOne
 wordsIn (star k) = repeats k

@@ -9,7 +9,7 @@ ghost use Rattle.testing.specs.Testing.{testOf};
 ghost use Rattle.catalogue.specs.Words.{languageX};
 ghost use Rattle.catalogue.specs.Entries.{recordOf};
 ghost use Rattle.samples.specs.Table.{x12, x, noStates, oneState, twoPaths, starSum, firstOne};
-ghost use Rattle.samples.specs.Answers.{verdict, Wrote, Minimises};
+ghost use Rattle.samples.specs.Answers.{verdict, Wrote, WroteMinimal};
 use compare::Compared;
 use compare::Side;
 use minimal::Minimised;
@@ -56,7 +56,7 @@ pub fn test_x(word: &[u8]) -> Tested
 
 // 2. X 12's machine has minimal record n = 2, I = 1, F = 3, rows 2, 3, 1, 1: 31 bytes.
 pub fn minimal_of_x(out: &mut [u8]) -> Minimised
-    ensures bytes { λ r. ⌜ Minimises x 2 (now (out .entry)) r (now (out .exit)) ⌝ }
+    ensures bytes { λ r. ⌜ WroteMinimal x 2 (now (out .entry)) r (now (out .exit)) ⌝ }
     ensures length { λ r. ⌜ (31 ≤ length (now (out .entry)) → r ≡ Minimised.Done 31 2) ⌝ }
 {
     minimal::minimal(&X12, out)
@@ -73,7 +73,7 @@ pub fn x_against_all(word: &mut [u8]) -> Compared
 
 // 4. n = 0: dimension 0; its complement: 1.
 pub fn minimal_of_nothing(out: &mut [u8]) -> Minimised
-    ensures { λ r. ⌜ Minimises (noStates 2) 0 (now (out .entry)) r (now (out .exit)) ⌝ }
+    ensures { λ r. ⌜ WroteMinimal (noStates 2) 0 (now (out .entry)) r (now (out .exit)) ⌝ }
 {
     minimal::minimal(&NOTHING, out)
 }
@@ -93,7 +93,7 @@ pub fn test_two_paths(word: &[u8]) -> Tested
 }
 
 pub fn minimal_of_two_paths(out: &mut [u8]) -> Minimised
-    ensures { λ r. ⌜ Minimises (noStates 1) 0 (now (out .entry)) r (now (out .exit)) ⌝ }
+    ensures { λ r. ⌜ WroteMinimal (noStates 1) 0 (now (out .entry)) r (now (out .exit)) ⌝ }
 {
     minimal::minimal(&TWO_PATHS, out)
 }
@@ -113,7 +113,7 @@ pub fn meet_of_stars(out: &mut [u8]) -> Written
 
 // 7. The 7-state cycle for catalogue 5: dimension 3.
 pub fn minimal_of_cycle(out: &mut [u8]) -> Minimised
-    ensures { λ r. ⌜ Minimises (recordOf 5) 3 (now (out .entry)) r (now (out .exit)) ⌝ }
+    ensures { λ r. ⌜ WroteMinimal (recordOf 5) 3 (now (out .entry)) r (now (out .exit)) ⌝ }
 {
     minimal::minimal(&CYCLE, out)
 }

@@ -29,7 +29,7 @@ use Rattle.triangular.specs.Triangular.{InSpan}
 use Rattle.verdict.specs.Rows.{bothOf, RowOf}
 use Rattle.verdict.specs.Judged.{Found}
 use Rattle.verdict.proofs.RowLaws.{row-start, row-next, row-differs, row-first}
-use Rattle.unary.specs.Powers.{power, rowsOf, Powers}
+use Rattle.unary.specs.Powers.{power, powerRow, Powers}
 use Rattle.unary.proofs.Unary.{first-power, no-power, no-more}
 
 -- ---- the words of such a trail
@@ -85,7 +85,7 @@ module _ (bs cs : List ℕ) (m : Machine) (P : Paired bs cs m) where
     powers-end w k x h R = subst (λ a. firstDifference a A B ≡ none) (sym one ∙ P .letters) (none-difference 1 A B (no-power A B (λ i g. R .none i (omega (arith, P .states)))))
 
     -- The row is an xor of those before it.
-    pub powers-spanned : (w : List ℕ) (k x : ℕ) → Powers bs cs w k x → InSpan (statesOf bs + statesOf cs) k (rowsOf bs cs) x → firstDifference (lettersOf bs) A B ≡ none
+    pub powers-spanned : (w : List ℕ) (k x : ℕ) → Powers bs cs w k x → InSpan (statesOf bs + statesOf cs) k (powerRow bs cs) x → firstDifference (lettersOf bs) A B ≡ none
     powers-spanned w k x R (c, e) = subst (λ a. firstDifference a A B ≡ none) (sym one ∙ P .letters)
         (none-difference 1 A B (no-power A B (λ i g. sym (accepts-sum A B (power i))
         ∙ no-more (bothOf bs cs) k c (λ j h. sym (R .row .bits j h) ∙ e j h) (λ i h. accepts-sum A B (power i) ∙ R .none i (omega arith)) i)))

@@ -21,7 +21,7 @@ use Rattle.triangular.proofs.SpanLaws.{span-own, spanned-more, spanned-start}
 use Rattle.trail.specs.Trail.{trailSize}
 use Rattle.verdict.specs.Judged.{Undecided}
 use Rattle.verdict.proofs.RowLaws.{row-start, row-below}
-use Rattle.unary.specs.Powers.{power, rowsOf, Powers, Trying}
+use Rattle.unary.specs.Powers.{power, powerRow, Powers, Trying}
 use Rattle.unary.proofs.PowerLaws.{powers-spanned}
 
 module _ (bs cs : List ℕ) (m : Machine) (P : Paired bs cs m) where
@@ -29,7 +29,7 @@ module _ (bs cs : List ℕ) (m : Machine) (P : Paired bs cs m) where
   N = statesOf bs + statesOf cs
 
   abbrev Y : ℕ → ℕ → Bool
-  Y = rowsOf bs cs
+  Y = powerRow bs cs
 
   -- A row has its place in a basis for as many states.
   pub row-fits : (w e : List ℕ) (k x n : ℕ) → Powers bs cs w k x → m .states ≤ n → x < 2 ^ n

@@ -1,6 +1,6 @@
 -- Words over one letter: there is one of each length.
 --   power k                   the word of k letters
---   rowsOf bs cs k            the row, as bits, that it leads to in two records side by side
+--   powerRow bs cs k          the row, as bits, that it leads to in two records side by side
 --   Powers bs cs w k x        x is that row; no word of up to k letters is accepted by just one record; the trail w has these words
 --   Trying bs cs w k x p e    that, and the basis e with the pivots p is spanned by the rows of fewer letters
 use mathlib.Core.Path.{_≡_}
@@ -20,8 +20,8 @@ abbrev pub power : ℕ → List ℕ
 power zero = []
 power (suc k) = power k ++ (0 ∷ [])
 
-abbrev pub rowsOf : List ℕ → List ℕ → ℕ → ℕ → Bool
-rowsOf bs cs k = reach (bothOf bs cs) (bothOf bs cs .initial) (power k)
+abbrev pub powerRow : List ℕ → List ℕ → ℕ → ℕ → Bool
+powerRow bs cs k = reach (bothOf bs cs) (bothOf bs cs .initial) (power k)
 
 pub record Powers (bs cs w : List ℕ) (k x : ℕ) : Type 0 where
   pub row : RowOf bs cs (power k) x
@@ -33,4 +33,4 @@ pub record Powers (bs cs w : List ℕ) (k x : ℕ) : Type 0 where
 pub record Trying (bs cs w : List ℕ) (k x p : ℕ) (e : List ℕ) : Type 0 where
   pub powers : Powers bs cs w k x
   pub shape : Triangular p e
-  pub span : Spanned (statesOf bs + statesOf cs) k (rowsOf bs cs) p e
+  pub span : Spanned (statesOf bs + statesOf cs) k (powerRow bs cs) p e

@@ -14,7 +14,7 @@ returns c =
     let a = c .before .before .args in
     let room = length (now (a .out)) in
     let e = number-met (a .number) room (c .if1 .taken) in
-    promises (a .number) room (now (a .out)) (now (a .out)) _ (rw e) (rw e)
+    promises (a .number) (now (a .out)) (now (a .out)) _ (rw e) (rw e)
 
 load-requires : tie.Need-load-requires
 load-requires c κs = search needs
@@ -37,7 +37,7 @@ returns-2 c =
     let room = length (now (a .out)) in
     let e = number-passes (a .number) room (s .if1 .left) in
     let same = encode-loaded (a .number) (s .if1 .left) _ (l .result) (l .ensures) in
-    promises (a .number) room (now (a .out)) (w .last .1 .1 .0) (w .result) (rw e (w .ensures .0 ∙ rw same)) (rw e (w .ensures .1 ∙ rw same))
+    promises (a .number) (now (a .out)) (w .last .1 .1 .0) (w .result) (rw e (w .ensures .0 ∙ rw same)) (rw e (w .ensures .1 ∙ rw same))
 
 pub give-spec : {M : Type 1} → statement M
 give-spec = tie.close (tie.spec returns load-requires write-requires same-length returns-2)

@@ -5,16 +5,16 @@ use lib.ListN.{getD}
 use native.Mathlib.Omega.{arith}
 use borrow.Author.Needs.{needs}
 use Rattle.record.specs.Record.{lettersOf}
-use Rattle.record.specs.Held.{Filled}
+use Rattle.record.specs.Held.{HeldUpTo}
 use Rattle.record.proofs.Held.{filled-none, filled-letter, holds}
 use Rattle.catalogue.specs.Entries.{recordOf}
 use Rattle.catalogue.proofs.Columns.{letters, states-column, letters-column, initial-column, finals-column}
-use Rattle.catalogue.proofs.Records.{record-formed, record-bounds}
+use Rattle.catalogue.proofs.Records.{record-claims, record-bounds}
 use Rattle.catalogue.proofs.load.Statement.{statement}
 use Rattle.catalogue.proofs.load.Tie as tie
 
 abbrev Inv-loop : tie.InvT-loop
-Inv-loop j t₀ a l₀ t l = (l ≤ a) × Filled (recordOf j) t l 0
+Inv-loop j t₀ a l₀ t l = (l ≤ a) × HeldUpTo (recordOf j) t l 0
 
 abbrev μ-loop : tie.MeasureT-loop
 μ-loop j t₀ a l₀ t l = a - l
@@ -76,7 +76,7 @@ returns c =
     let j = s .args .j in
     let h = s .pre .0 in
     let all : b .loop .l ≡ lettersOf (recordOf j) = omega (arith, count s, c .before .before .loop-test .left, b .loop .inv .0) in
-    holds (recordOf j) (b .loop .t) (record-formed j h) (rw all at (b .loop .inv .1)) (states-column j h) (count s) (c .before .from-u64 .ensures ∙ initial-column j h)
+    holds (recordOf j) (b .loop .t) (record-claims j h .form .formed) (rw all at (b .loop .inv .1)) (states-column j h) (count s) (c .before .from-u64 .ensures ∙ initial-column j h)
     (c .from-u642 .ensures ∙ finals-column j h)
 
 pub load-spec : {M : Type 1} → statement M

@@ -6,7 +6,7 @@ use native.Mathlib.Omega.{arith}
 use borrow.Author.Needs.{needs}
 use Rattle.rows.specs.Row.{mask}
 use Rattle.record.specs.Record.{statesOf}
-use Rattle.record.specs.Held.{Filled}
+use Rattle.record.specs.Held.{HeldUpTo}
 use Rattle.record.proofs.Held.{filled-row}
 use Rattle.catalogue.specs.Entries.{recordOf}
 use Rattle.catalogue.proofs.Columns.{states, first, states-column, block-within, place-within, rows-column}
@@ -15,7 +15,7 @@ use Rattle.catalogue.proofs.load_block.Statement.{statement}
 use Rattle.catalogue.proofs.load_block.Tie as tie
 
 abbrev Inv-loop : tie.InvT-loop
-Inv-loop j l t₀ n first i₀ t i = (i ≤ n) × Filled (recordOf j) t l i
+Inv-loop j l t₀ n first i₀ t i = (i ≤ n) × HeldUpTo (recordOf j) t l i
 
 abbrev μ-loop : tie.MeasureT-loop
 μ-loop j l t₀ n first i₀ t i = n - i

@@ -4,14 +4,14 @@ use denote.Ref.{now}
 use Prim.Native.Nat.{_-_, _≤_}
 use native.Mathlib.Omega.{arith}
 use Rattle.record.specs.Record.{lettersOf}
-use Rattle.record.specs.Held.{Filled}
+use Rattle.record.specs.Held.{HeldUpTo}
 use Rattle.record.proofs.Refusals.{Passed, good-check}
 use Rattle.record.proofs.Held.{filled-none, filled-letter, holds}
 use Rattle.codec.proofs.read.Statement.{statement}
 use Rattle.codec.proofs.read.Tie as tie
 
 abbrev Inv-loop : tie.InvT-loop
-Inv-loop bytes t₀ n a l₀ t l = (l ≤ a) × Filled bytes t l 0
+Inv-loop bytes t₀ n a l₀ t l = (l ≤ a) × HeldUpTo bytes t l 0
 
 abbrev μ-loop : tie.MeasureT-loop
 μ-loop bytes t₀ n a l₀ t l = a - l

@@ -6,14 +6,14 @@ use lib.ListN.{length}
 use native.Mathlib.Omega.{arith}
 use Rattle.rows.specs.Row.{mask}
 use Rattle.record.specs.Record.{statesOf}
-use Rattle.record.specs.Held.{Filled}
+use Rattle.record.specs.Held.{HeldUpTo}
 use Rattle.record.proofs.Refusals.{Passed, good-check, area}
 use Rattle.record.proofs.Held.{row-inside, filled-row}
 use Rattle.codec.proofs.read_block.Statement.{statement}
 use Rattle.codec.proofs.read_block.Tie as tie
 
 abbrev Inv-loop : tie.InvT-loop
-Inv-loop bytes l t₀ n first i₀ t i = (i ≤ n) × Filled bytes t l i
+Inv-loop bytes l t₀ n first i₀ t i = (i ≤ n) × HeldUpTo bytes t l i
 
 abbrev μ-loop : tie.MeasureT-loop
 μ-loop bytes l t₀ n first i₀ t i = n - i

@@ -5,8 +5,9 @@ use denote.Ref.{now}
 use lib.ListN.{length}
 use Rattle.record.specs.Record.{automatonOf}
 use Rattle.record.specs.Outcome.{bufferOf}
-use Rattle.compare.specs.Compare.{differenceOf, refusedAs, comparedAs}
-use Rattle.compare.proofs.CompareLaws.{outcome-refused, claims}
+use Rattle.compare.specs.Compare.{differenceOf, comparedRefusal, comparedAs}
+use Rattle.compare.proofs.CompareLaws.{outcome-refused}
+use Rattle.compare.proofs.Claims.{claims}
 use borrow.Author.Needs.{needs}
 use Rattle.compare.proofs.compare.Statement.{statement}
 use Rattle.compare.proofs.compare.Tie as tie
@@ -28,7 +29,7 @@ returns c =
     let a = c .before .before .before .before .before .before .before .args in
     let told = c .before .enum-told2 .given in
     let o = outcome-refused (now (a .first)) (now (a .second)) (length (now (a .word))) (told .0 .0) (told .0 .1 .0) (told .0 .1 .1 .0) (sym (c .before .before .before .check-pair .ensures) ∙ told .1) in
-    let answer = c .refuse .ensures ∙ ap refusedAs (told .1) ∙ sym (ap (comparedAs (differenceOf (now (a .first)) (now (a .second))) (automatonOf (now (a .first)))) o) in
+    let answer = c .refuse .ensures ∙ ap comparedRefusal (told .1) ∙ sym (ap (comparedAs (differenceOf (now (a .first)) (now (a .second))) (automatonOf (now (a .first)))) o) in
     let buffer = sym (ap (λ x. bufferOf x (now (a .word))) o) in
     (answer, (buffer, claims (now (a .first)) (now (a .second)) (now (a .word)) (now (a .word)) (c .refuse .result) answer buffer))
 

@@ -47,7 +47,7 @@ returns c =
     let s = c .before .before .before .before .before .before .before in
     let a = s .args in
     let none-found = rw (c .enum-told .given .1) at (c .before .before .compare .ensures) in (
-      sym (same-answer (now (a .first)) (now (a .second)) (now (a .word)) (s .pre) none-found),
+      sym (same-answer (now (a .first)) (now (a .second)) (length (now (a .word))) (s .pre) none-found),
       sym (ap (λ x. bufferOf x (now (a .word))) (outcome-same (now (a .first)) (now (a .second)) (length (now (a .word))) (s .pre) none-found)),
     )
 
@@ -67,7 +67,7 @@ returns-2 c =
     let w = wordIn (c .before .before .before .before .before .before .before .before .compare .last .1 .1 .0) (c .before .before .before .before .before .before .v .given .0 .0) in
     let e = c .before .depth .ensures .0 in
     let short : length (now (a .word)) < length w = rw e at (c .if1 .taken) in (
-      ap (Refused 12 0) e ∙ sym (word-withheld (now (a .first)) (now (a .second)) (now (a .word)) w (s .pre) (difference (c .before .before .before .before .before .before)) short),
+      ap (Refused 12 0) e ∙ sym (word-withheld (now (a .first)) (now (a .second)) (length (now (a .word))) (s .pre) w (difference (c .before .before .before .before .before .before)) short),
       sym (ap (λ x. bufferOf x (now (a .word))) (outcome-word (now (a .first)) (now (a .second)) (length (now (a .word))) (s .pre) w (difference (c .before .before .before .before .before .before)) ∙ fit-short (length (now (a .word))) w refl short)),
     )
 
@@ -87,7 +87,7 @@ returns-3 c =
     let w = wordIn (c .before .before .before .before .before .before .before .before .before .before .before .before .before .before .compare .last .1 .1 .0) (c .before .before .before .before .before .before .before .before .before .before .before .before .v .given .0 .0) in
     let e = c .before .before .before .before .before .before .before .depth .ensures .0 in
     let room : length w ≤ length (now (a .word)) = rw e at (c .before .before .before .before .before .before .if1 .left) in (
-      ap₂ Differs e (c .named-side .ensures ∙ ap sideOf (found (c .before .before .before .before .before .before .before .before .before .before .before .before) .side)) ∙ sym (word-answer (now (a .first)) (now (a .second)) (now (a .word)) w (s .pre) (difference (c .before .before .before .before .before .before .before .before .before .before .before .before)) room),
+      ap₂ Differs e (c .named-side .ensures ∙ ap sideOf (found (c .before .before .before .before .before .before .before .before .before .before .before .before) .side)) ∙ sym (word-answer (now (a .first)) (now (a .second)) (length (now (a .word))) (s .pre) w (difference (c .before .before .before .before .before .before .before .before .before .before .before .before)) room),
       c .before .before .before .trace .ensures ∙ ap (λ k. w ++ drop k (now (a .word))) e
           ∙ sym (ap (λ x. bufferOf x (now (a .word))) (outcome-word (now (a .first)) (now (a .second)) (length (now (a .word))) (s .pre) w (difference (c .before .before .before .before .before .before .before .before .before .before .before .before)) ∙ fit-done (length (now (a .word))) w refl room)),
     )

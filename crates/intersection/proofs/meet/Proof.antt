@@ -12,8 +12,9 @@ use Rattle.minimisation.specs.Minimises.{Minimises}
 use Rattle.record.specs.Record.{lettersOf, automatonOf}
 use Rattle.record.specs.declared.Written.the-variants.{Refused}
 use Rattle.operands.proofs.PairLaws.{both-passed}
-use Rattle.results.specs.Results.{refusedAs, Operands}
-use Rattle.intersection.proofs.MeetLaws.{meet-held, meet-refused, meet-over, within, meet-products, meet-service}
+use Rattle.operands.specs.Operands.{Operands}
+use Rattle.results.specs.Results.{pairRefusal}
+use Rattle.intersection.proofs.MeetLaws.{meet-held, meet-refused, meet-over, within, meet-refuses, meet-gives}
 use borrow.Author.Needs.{needs}
 use Rattle.intersection.proofs.meet.Statement.{statement}
 use Rattle.intersection.proofs.meet.Tie as tie
@@ -50,8 +51,7 @@ returns c =
     let a = c .before .before .before .before .before .before .before .args in
     let told = c .before .enum-told2 .given in
     let o = meet-refused (now (a .first)) (now (a .second)) (length (now (a .out))) (told .0 .0) (told .0 .1 .0) (told .0 .1 .1 .0) (sym (c .before .before .before .check-pair .ensures) ∙ told .1) in
-    let p = meet-service (now (a .first)) (now (a .second)) (now (a .out)) .0 (told .0 .0) (told .0 .1 .0) (told .0 .1 .1 .0) (c .refuse .result) o (c .refuse .ensures ∙ ap refusedAs (told .1)) in
-    (p .0, (p .1 .0, (meet-products (now (a .first)) (now (a .second)) (length (now (a .out))) (c .refuse .result) (p .0), p .1 .1)))
+    meet-refuses (now (a .first)) (now (a .second)) (now (a .out)) (told .0 .0) (told .0 .1 .0) (told .0 .1 .1 .0) (c .refuse .result) o (c .refuse .ensures ∙ ap pairRefusal (told .1))
 
 minimal-form-requires : tie.Need-minimal-form-requires
 minimal-form-requires c κs = (passed (c .before) .0, refl)
@@ -71,8 +71,7 @@ returns-2 c =
     let buf = now (a .out) in
     let d = h .before .before .minimal-form .result .states * h .minimal-form2 .result .states in
     let o = meet-over bs cs (length buf) (passed (h .before .before .before .before)) d (dimensions h) (omega arith) in
-    let p = meet-service bs cs buf .0 10 0 d (Refused 10 0 d) o refl in
-    (p .0, (p .1 .0, (meet-products bs cs (length buf) (Refused 10 0 d) (p .0), p .1 .1)))
+    meet-refuses bs cs buf 10 0 d (Refused 10 0 d) o refl
 
 product-requires : tie.Need-product-requires
 product-requires c κs =
@@ -104,9 +103,8 @@ returns-3 c =
     let f = c .before .before .finish in
     let s = k .product .last .1 .1 .1 .1 .0 in
     let built = meet-held (lettersOf bs) (g .minimal-form .result .letters) bs cs (g .minimal-form .last .1 .0) (h .minimal-form2 .last .1 .0) s (g .minimal-form .result) (h .minimal-form2 .result) (k .product .result) (g .minimal-form .ensures .0) (g .minimal-form .ensures .1) (second h) (k .product .ensures) in
-    let small = within bs cs (g .minimal-form .result .states * h .minimal-form2 .result .states) (dimensions h) (omega (arith, k .before .before .before .before .if1 .left)) in
-    let p = meet-service bs cs buf .1 s (k .product .result) (f .last .1 .1 .0) (f .result) (passed (g .before .before), small) built (f .ensures .0) (f .ensures .1) in
-    (p .0, (p .1 .0, (meet-products bs cs (length buf) (f .result) (p .0), p .1 .1)))
+    let small = within bs cs (passed (g .before .before)) (g .minimal-form .result .states * h .minimal-form2 .result .states) (dimensions h) (omega (arith, k .before .before .before .before .if1 .left)) in
+    meet-gives bs cs buf s (k .product .result) (f .last .1 .1 .0) (f .result) (passed (g .before .before), small) built (f .ensures .0) (f .ensures .1)
 
 pub meet-spec : {M : Type 1} → statement M
 meet-spec =

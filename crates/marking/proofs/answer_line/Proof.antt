@@ -12,26 +12,27 @@ use Rattle.compare.specs.Compare.{compareOutcome}
 use Rattle.compare.specs.declared.Compared.the-variants.{Same}
 use Rattle.lines.specs.Lines.{sameLine}
 use Rattle.lines.proofs.Building.{begins-as}
-use Rattle.marking.proofs.Verdicts.{Found, Case, case, answer-refused, answer-same, found-line}
+use Rattle.compare.proofs.CompareLaws.{Written, Case, case}
+use Rattle.marking.proofs.Verdicts.{answer-refused, answer-same, found-line, checks-refused}
 use borrow.Author.Needs.{needs}
 use Rattle.marking.proofs.answer_line.Statement.{statement}
 use Rattle.marking.proofs.answer_line.Tie as tie
 
 -- What the comparison tells, with room for 64 letters.
 verdict : (c : tie.After-compare) → Case (now (c .before .before .before .before .before .args .key)) (now (c .before .before .before .before .before .args .answer)) 64 (c .compare .result)
-verdict c = case (now (c .before .before .before .before .before .args .key)) (now (c .before .before .before .before .before .args .answer)) 64 (omega arith) (c .compare .result) (c .compare .ensures .0)
+verdict c = case (now (c .before .before .before .before .before .args .key)) (now (c .before .before .before .before .before .args .answer)) 64 (c .compare .result) (c .compare .ensures .0)
 
 verdict-same : (c : tie.After-enum-told) → Case (now (c .before .before .before .before .before .before .before .before .args .key)) (now (c .before .before .before .before .before .before .before .before .args .answer)) 64 Same
 verdict-same c = subst (Case (now (c .before .before .before .before .before .before .before .before .args .key)) (now (c .before .before .before .before .before .before .before .before .args .answer)) 64) (c .enum-told .given .1) (verdict (c .before .before .before))
 
-found : (c : tie.After-length) → Found (now (c .before .before .before .before .before .before .before .before .args .key)) (now (c .before .before .before .before .before .before .before .before .args .answer)) 64 (c .length .given .0 .0) (c .length .given .0 .1 .0)
+found : (c : tie.After-length) → Written (now (c .before .before .before .before .before .before .before .before .args .key)) (now (c .before .before .before .before .before .before .before .before .args .answer)) 64 (c .length .given .0 .0) (c .length .given .0 .1 .0)
 found c = subst (Case (now (c .before .before .before .before .before .before .before .before .args .key)) (now (c .before .before .before .before .before .before .before .before .args .answer)) 64) (c .length .given .1) (verdict (c .before .before .before))
 
 -- The word that was written is the one that was found.
-is-word : (c : tie.After-length) → take (c .length .given .0 .0) (c .before .before .before .compare .last .1 .1 .0) ≡ found c .word
+is-word : (c : tie.After-length) → take (c .length .given .0 .0) (c .before .before .before .compare .last .1 .1 .0) ≡ found c .difference .word
 is-word c =
     let f = found c in
-    ap (take (c .length .given .0 .0)) (c .before .before .before .compare .ensures .1 .0) ∙ outcome-take (compareOutcome (now (c .before .before .before .before .before .before .before .before .args .key)) (now (c .before .before .before .before .before .before .before .before .args .answer)) 64) (f .word) _ (c .length .given .0 .0) (f .written) (f .count)
+    ap (take (c .length .given .0 .0)) (c .before .before .before .compare .ensures .1 .0) ∙ outcome-take (compareOutcome (now (c .before .before .before .before .before .before .before .before .args .key)) (now (c .before .before .before .before .before .before .before .before .args .answer)) 64) (f .difference .word) _ (c .length .given .0 .0) (f .written) (f .count)
 
 slice-aggregate-compare : tie.Need-slice-aggregate-compare
 slice-aggregate-compare c = search needs
@@ -55,10 +56,10 @@ enum-known-length : tie.Need-enum-known-length
 enum-known-length c = search needs
 
 dimension-requires-2 : tie.Need-dimension-requires-2
-dimension-requires-2 c κs = let w = both-passed _ _ (found (c .before) .both) in search needs
+dimension-requires-2 c κs = let w = both-passed _ _ (found (c .before) .difference .both) in search needs
 
 array-share-prefix-word : tie.Need-array-share-prefix-word
-array-share-prefix-word c = let f = found (c .before .before .before) in omega (arith, f .count, f .short)
+array-share-prefix-word c = let f = found (c .before .before .before) in omega (arith, f .count, f .difference .short .0)
 
 slice-aggregate-differ-line : tie.Need-slice-aggregate-differ-line
 slice-aggregate-differ-line c = found (c .before .before .before .before) .count ∙ sym (ap length (is-word (c .before .before .before .before)))
@@ -67,8 +68,8 @@ differ-line-requires : tie.Need-differ-line-requires
 differ-line-requires c κs =
     let f = found (c .before .before .before .before) in
     let w = is-word (c .before .before .before .before) in
-    let small = good-check _ (both-passed _ _ (f .both) .0) .front .letters in
-    (subst (Over 10) (sym w) (over-more (omega arith) (f .word) (f .over)), omega (arith, ap length w, f .short), omega (arith, c .before .before .before .before .before .before .before .before .before .before .before .before .pre))
+    let small = good-check _ (both-passed _ _ (f .difference .both) .0) .front .letters in
+    (subst (Over 10) (sym w) (over-more (omega arith) (f .difference .word) (f .difference .first .over)), omega (arith, ap length w, f .difference .short .0), omega (arith, c .before .before .before .before .before .before .before .before .before .before .before .before .pre))
 
 enum-known-number : tie.Need-enum-known-number
 enum-known-number c = search needs
@@ -103,7 +104,7 @@ returns-3 c =
     let a = c .before .before .before .before .before .before .before .before .before .before .before .before .before .args in
     let told = c .before .before .before .before .before .number .given in
     let e = subst (Case (now (a .key)) (now (a .answer)) 64) (told .1) (verdict (c .before .before .before .before .before .before .before .before)) in
-    begins-as (sym (answer-refused (a .index) (now (a .key)) (now (a .answer)) (told .0 .0) (told .0 .1 .0) (told .0 .1 .1 .0) e)) (c .before .before .refused-line .ensures)
+    begins-as (sym (answer-refused (a .index) (now (a .key)) (now (a .answer)) (told .0 .0) (told .0 .1 .0) (told .0 .1 .1 .0) (checks-refused (now (a .key)) (now (a .answer)) 64 (told .0 .0) (told .0 .1 .0) (told .0 .1 .1 .0) (omega arith) e))) (c .before .before .refused-line .ensures)
 
 pub answer-line-spec : {M : Type 1} → statement M
 answer-line-spec =

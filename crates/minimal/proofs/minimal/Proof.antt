@@ -5,12 +5,11 @@ use native.Mathlib.Omega.{arith}
 use denote.Ref.{now}
 use lib.ListN.{length}
 use Rattle.automata.specs.MinimalOf.{dimensionOf}
-use Rattle.automata.proofs.Dimension.{dimension-least}
 use Rattle.rows.specs.Row.{mask}
 use Rattle.rows.specs.Machine.{Bounded, Valid}
 use Rattle.record.specs.Record.{lettersOf, WellFormed, automatonOf, maxStates}
 use Rattle.record.specs.Outcome.{answerOf, bufferOf, refusalOf}
-use Rattle.record.proofs.Refusals.{good-check}
+use Rattle.record.proofs.Claims.{dimension-fits}
 use Rattle.minimal.specs.Minimal.{minimalOutcome, minimisedAs}
 use Rattle.minimal.proofs.MinimalLaws.{minimal-claims, minimal-refused, minimal-written}
 use borrow.Author.Needs.{needs}
@@ -26,10 +25,9 @@ held : (c : tie.After-minimal-form) → Valid (c .minimal-form .last .1 .0) (c .
 held c =
     let bs = now (c .before .before .before .before .before .before .before .args .bytes) in
     let f = c .minimal-form in
-    let M = f .ensures .1 in
-    let front = good-check bs (passed (c .before .before)) .front in (
+    let M = f .ensures .1 in (
       subst (λ a. Bounded a (f .last .1 .0) (f .result .states) (mask (f .result .initial)) (mask (f .result .finals))) (sym (f .ensures .0)) (M .bounded),
-      omega (arith, M .dimension, dimension-least (lettersOf bs) (automatonOf bs) (automatonOf bs) (λ w ow. refl), front .states),
+      omega (arith, M .dimension, dimension-fits (lettersOf bs) bs (passed (c .before .before))),
     )
 
 check-requires : tie.Need-check-requires
@@ -54,8 +52,7 @@ returns c =
     let told = c .before .before .enum-told2 .given in
     let e = minimal-refused bs (length (now (a .out))) (dimensionOf (lettersOf bs) (automatonOf bs)) 0 (told .0 .0) (told .0 .1 .0) (sym (c .before .before .before .before .check .ensures) ∙ told .1) in
     let answer = c .with-dimension .ensures ∙ ap (minimisedAs 0) (c .before .refused .ensures ∙ ap (λ k. refusalOf k 1) (told .1)) ∙ e .0 in
-    let p = minimal-claims bs (now (a .out)) (now (a .out)) (c .with-dimension .result) answer (e .1 (now (a .out))) in
-    (answer, (e .1 (now (a .out)), (λ n d q. p n d q .form, (λ n d q. p n d q .words, (λ n d q. p n d q .basis, (λ n d q. p n d q .empty, (λ n d q. p n d q .dimension, (λ n d q. p n d q .least, λ n d q. p n d q .unique))))))))
+    (answer, (e .1 (now (a .out)), minimal-claims bs (now (a .out)) (now (a .out)) (c .with-dimension .result) answer (e .1 (now (a .out)))))
 
 minimal-form-requires : tie.Need-minimal-form-requires
 minimal-form-requires c κs = (passed (c .before), refl)
@@ -78,8 +75,7 @@ returns-2 c =
     let o = minimal-written bs (length (now (a .out))) (f .last .1 .0) (f .result) (passed (c .before .before .before .before .before .before .before .before)) (f .ensures .0) (f .ensures .1) in
     let answer = c .with-dimension2 .ensures ∙ ap (minimisedAs (f .result .states)) (w .0 ∙ ap answerOf (sym o)) ∙ ap (λ d. minimisedAs d (answerOf (minimalOutcome bs (length (now (a .out)))))) (f .ensures .1 .dimension) in
     let buffer = w .1 ∙ ap (λ x. bufferOf x (now (a .out))) (sym o) in
-    let p = minimal-claims bs (now (a .out)) (c .before .before .before .write .last .1 .1 .0) (c .with-dimension2 .result) answer buffer in
-    (answer, (buffer, (λ n d q. p n d q .form, (λ n d q. p n d q .words, (λ n d q. p n d q .basis, (λ n d q. p n d q .empty, (λ n d q. p n d q .dimension, (λ n d q. p n d q .least, λ n d q. p n d q .unique))))))))
+    (answer, (buffer, minimal-claims bs (now (a .out)) (c .before .before .before .write .last .1 .1 .0) (c .with-dimension2 .result) answer buffer))
 
 pub minimal-spec : {M : Type 1} → statement M
 minimal-spec =

@@ -1,10 +1,10 @@
--- `nxa_catalogue`: the reply of what the service answers; its claims hold where number 0 tells that it wrote.
-use mathlib.Core.Path.{ap, _∙_}
+-- `nxa_catalogue`: the reply of what the service answers; its claims are of the answer that a host reads off the reply.
 use denote.Ref.{now}
 use lib.ListN.{length}
-use Rattle.catalogue.specs.Entries.{catalogueOf}
-use Rattle.replies.specs.Reply.{ofWritten}
-use Rattle.nxa.proofs.Granted.{written-granted, catalogue-reasoned}
+use Rattle.record.specs.Outcome.{answerIn}
+use Rattle.catalogue.specs.Entries.{catalogueOf, GivesEntry}
+use Rattle.replies.specs.Reply.{ofWritten, writtenIn}
+use Rattle.nxa.proofs.Granted.{catalogue-reasoned, written-back, told}
 use borrow.Author.Needs.{needs}
 use Rattle.nxa.proofs.nxa_catalogue.Statement.{statement}
 use Rattle.nxa.proofs.nxa_catalogue.Tie as tie
@@ -21,27 +21,10 @@ same-length c = search needs
 returns : tie.Need-returns
 returns c =
     let a = c .before .before .before .before .before .before .args in
-    let room = length (now (a .out)) in
+    let buf = now (a .out) in
     let w = c .before .before .before .give in
-    let r = c .of-written .result in
-    let told = c .of-written .ensures in
-    let claims = w .ensures .1 .1 in
-    let done = written-granted (catalogueOf (a .number) room) (w .result) r (catalogue-reasoned (a .number) room) (w .ensures .0) told in (
-      told ∙ ap ofWritten (w .ensures .0),
-      (
-        w .ensures .1 .0,
-        (
-          λ e. claims .0 (r .length) (done e),
-          (
-            λ e. claims .1 .0 (r .length) (done e),
-            (
-              λ e. claims .1 .1 .0 (r .length) (done e),
-              λ e. claims .1 .1 .1 (r .length) (done e),
-            ),
-          ),
-        ),
-      ),
-    )
+    let back = written-back (catalogueOf (a .number) (length buf)) (w .result) (catalogue-reasoned (a .number) (length buf)) (w .ensures .0) in
+    told ofWritten writtenIn (w .result) (answerIn (catalogueOf (a .number)) buf) (c .of-written .result) _ (GivesEntry (a .number) (w .last .1 .0)) (c .of-written .ensures) back (w .ensures)
 
 pub nxa-catalogue-spec : {M : Type 1} → statement M
 nxa-catalogue-spec = tie.close (tie.spec give-requires of-written-requires same-length returns)

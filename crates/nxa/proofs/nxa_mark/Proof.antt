@@ -1,10 +1,13 @@
--- `nxa_mark`: the reply of what the service answers; its claims hold where number 0 tells that it wrote.
-use mathlib.Core.Path.{ap, _∙_}
+-- `nxa_mark`: the reply of what the service answers; its claims are of the answer that a host reads off the reply.
 use denote.Ref.{now}
 use lib.ListN.{length}
-use Rattle.marking.specs.Marking.{markOutcome}
-use Rattle.replies.specs.Reply.{ofWritten}
-use Rattle.nxa.proofs.Granted.{written-granted, mark-reasoned}
+use Prim.Native.Nat.{_≤_}
+use Rattle.record.specs.Outcome.{answerIn}
+use Rattle.lines.specs.Lines.{longest}
+use Rattle.marking.specs.Marking.{markLine, markOutcome}
+use Rattle.marking.specs.Told.{Marks}
+use Rattle.replies.specs.Reply.{ofWritten, writtenIn}
+use Rattle.nxa.proofs.Granted.{mark-reasoned, written-back, told}
 use borrow.Author.Needs.{needs}
 use Rattle.nxa.proofs.nxa_mark.Statement.{statement}
 use Rattle.nxa.proofs.nxa_mark.Tie as tie
@@ -22,12 +25,11 @@ returns : tie.Need-returns
 returns c =
     let a = c .before .before .before .before .before .before .before .args in
     let s = now (a .script) in
-    let room = length (now (a .out)) in
+    let i = a .index in
+    let buf = now (a .out) in
     let w = c .before .before .before .mark in
-    let r = c .of-written .result in
-    let told = c .of-written .ensures in
-    let done = written-granted (markOutcome s (a .index) room) (w .result) r (mark-reasoned s (a .index) room) (w .ensures .0) told in
-    (told ∙ ap ofWritten (w .ensures .0), (w .ensures .1 .0, (w .ensures .1 .1 .0, λ short e. w .ensures .1 .1 .1 short (r .length) (done e))))
+    let back = written-back (markOutcome s i (length buf)) (w .result) (mark-reasoned s i (length buf)) (w .ensures .0) in
+    told ofWritten writtenIn (w .result) (answerIn (markOutcome s i) buf) (c .of-written .result) _ (λ x. (length (markLine s i) ≤ longest) × Marks s i (w .last .1 .1 .0) x) (c .of-written .ensures) back (w .ensures)
 
 pub nxa-mark-spec : {M : Type 1} → statement M
 nxa-mark-spec = tie.close (tie.spec mark-requires of-written-requires same-length returns)

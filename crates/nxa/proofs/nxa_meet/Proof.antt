@@ -1,12 +1,11 @@
--- `nxa_meet`: the reply of what the service answers; its claims hold where number 0 tells that it wrote.
-use native.Mathlib.Omega.{arith}
+-- `nxa_meet`: the reply of what the service answers; its claims are of the answer that a host reads off the reply.
 use denote.Ref.{now}
 use lib.ListN.{length}
-use Rattle.automata.specs.Language.{intersection}
-use Rattle.record.specs.Record.{lettersOf, languageOf}
-use Rattle.results.specs.Results.{Operands}
-use Rattle.intersection.specs.Meet.{maxProduct, meetOutcome, DimensionProduct, Small}
-use Rattle.nxa.proofs.Operations.{meet-reasoned, limits-told, operation-told}
+use Rattle.record.specs.Outcome.{answerIn}
+use Rattle.intersection.specs.Meet.{meetOutcome, Meets}
+use Rattle.replies.specs.Reply.{ofWritten, writtenIn}
+use Rattle.nxa.proofs.Granted.{written-back, told}
+use Rattle.nxa.proofs.Operations.{meet-reasoned}
 use borrow.Author.Needs.{needs}
 use Rattle.nxa.proofs.nxa_meet.Statement.{statement}
 use Rattle.nxa.proofs.nxa_meet.Tie as tie
@@ -27,10 +26,8 @@ returns c =
     let cs = now (a .second) in
     let buf = now (a .out) in
     let w = c .before .before .before .meet in
-    let r = c .of-written .result in
-    let told = c .of-written .ensures in
-    let p = operation-told (lettersOf bs) (intersection (languageOf bs) (languageOf cs)) (Operands bs cs × Small (lettersOf bs) (languageOf bs) (languageOf cs)) (meetOutcome bs cs (length buf)) buf (w .last .1 .1 .0) (w .result) r (meet-reasoned bs cs (length buf)) told (w .ensures .0, (w .ensures .1 .0, w .ensures .1 .1 .1)) in
-    (p .0, (p .1 .0, (limits-told 10 maxProduct (Operands bs cs) (DimensionProduct (lettersOf bs) (languageOf bs) (languageOf cs)) (w .result) r (omega arith) told (w .ensures .1 .1 .0), p .1 .1)))
+    let back = written-back (meetOutcome bs cs (length buf)) (w .result) (meet-reasoned bs cs (length buf)) (w .ensures .0) in
+    told ofWritten writtenIn (w .result) (answerIn (meetOutcome bs cs) buf) (c .of-written .result) _ (Meets bs cs (w .last .1 .1 .0)) (c .of-written .ensures) back (w .ensures)
 
 pub nxa-meet-spec : {M : Type 1} → statement M
 nxa-meet-spec = tie.close (tie.spec meet-requires of-written-requires same-length returns)

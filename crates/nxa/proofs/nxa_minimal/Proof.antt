@@ -1,11 +1,11 @@
--- `nxa_minimal`: the reply of what the service answers; its claims hold where number 0 tells that it wrote.
-use mathlib.Core.Path.{ap, _∙_}
+-- `nxa_minimal`: the reply of what the service answers; its claims are of the answer that a host reads off the reply.
 use denote.Ref.{now}
 use lib.ListN.{length}
 use Rattle.automata.specs.MinimalOf.{dimensionOf}
 use Rattle.record.specs.Record.{lettersOf, automatonOf}
-use Rattle.replies.specs.Reply.{ofMinimised}
-use Rattle.nxa.proofs.Granted.{minimal-granted}
+use Rattle.minimal.specs.Minimal.{minimalOutcome, minimalAnswer, GivesMinimal}
+use Rattle.replies.specs.Reply.{ofMinimised, minimisedIn}
+use Rattle.nxa.proofs.Granted.{minimal-reasoned, minimised-back, told}
 use borrow.Author.Needs.{needs}
 use Rattle.nxa.proofs.nxa_minimal.Statement.{statement}
 use Rattle.nxa.proofs.nxa_minimal.Tie as tie
@@ -23,35 +23,10 @@ returns : tie.Need-returns
 returns c =
     let a = c .before .before .before .before .before .before .before .args in
     let bs = now (a .«record») in
-    let told = c .of-minimised .ensures in
+    let room = length (now (a .out)) in
     let m = c .before .before .before .minimal in
-    let r = c .of-minimised .result in
-    let claims = m .ensures .1 .1 in
-    let done = minimal-granted bs (length (now (a .out))) (dimensionOf (lettersOf bs) (automatonOf bs)) (m .result) r (m .ensures .0) told in (
-      told ∙ ap ofMinimised (m .ensures .0),
-      (
-        m .ensures .1 .0,
-        (
-          λ e. claims .0 (r .length) (r .value) (done e),
-          (
-            λ e. claims .1 .0 (r .length) (r .value) (done e),
-            (
-              λ e. claims .1 .1 .0 (r .length) (r .value) (done e),
-              (
-                λ e. claims .1 .1 .1 .0 (r .length) (r .value) (done e),
-                (
-                  λ e. claims .1 .1 .1 .1 .0 (r .length) (r .value) (done e),
-                  (
-                    λ e. claims .1 .1 .1 .1 .1 .0 (r .length) (r .value) (done e),
-                    λ e. claims .1 .1 .1 .1 .1 .1 (r .length) (r .value) (done e),
-                  ),
-                ),
-              ),
-            ),
-          ),
-        ),
-      ),
-    )
+    let back = minimised-back (minimalOutcome bs room) (dimensionOf (lettersOf bs) (automatonOf bs)) (m .result) (minimal-reasoned bs room) (m .ensures .0) in
+    told ofMinimised minimisedIn (m .result) (minimalAnswer bs room) (c .of-minimised .result) _ (GivesMinimal bs (m .last .1 .0)) (c .of-minimised .ensures) back (m .ensures)
 
 pub nxa-minimal-spec : {M : Type 1} → statement M
 nxa-minimal-spec = tie.close (tie.spec minimal-requires of-minimised-requires same-length returns)

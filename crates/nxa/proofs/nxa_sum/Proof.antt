@@ -1,11 +1,11 @@
--- `nxa_sum`: the reply of what the service answers; its claims hold where number 0 tells that it wrote.
+-- `nxa_sum`: the reply of what the service answers; its claims are of the answer that a host reads off the reply.
 use denote.Ref.{now}
 use lib.ListN.{length}
-use Rattle.automata.specs.Language.{symmetricDifference}
-use Rattle.record.specs.Record.{lettersOf, languageOf}
-use Rattle.results.specs.Results.{Operands}
-use Rattle.operations.specs.Operations.{sumOutcome}
-use Rattle.nxa.proofs.Operations.{sum-reasoned, operation-told}
+use Rattle.record.specs.Outcome.{answerIn}
+use Rattle.operations.specs.Operations.{sumOutcome, Sums}
+use Rattle.replies.specs.Reply.{ofWritten, writtenIn}
+use Rattle.nxa.proofs.Granted.{written-back, told}
+use Rattle.nxa.proofs.Operations.{sum-reasoned}
 use borrow.Author.Needs.{needs}
 use Rattle.nxa.proofs.nxa_sum.Statement.{statement}
 use Rattle.nxa.proofs.nxa_sum.Tie as tie
@@ -26,7 +26,8 @@ returns c =
     let cs = now (a .second) in
     let buf = now (a .out) in
     let w = c .before .before .before .sum in
-    operation-told (lettersOf bs) (symmetricDifference (languageOf bs) (languageOf cs)) (Operands bs cs) (sumOutcome bs cs (length buf)) buf (w .last .1 .1 .0) (w .result) (c .of-written .result) (sum-reasoned bs cs (length buf)) (c .of-written .ensures) (w .ensures)
+    let back = written-back (sumOutcome bs cs (length buf)) (w .result) (sum-reasoned bs cs (length buf)) (w .ensures .0) in
+    told ofWritten writtenIn (w .result) (answerIn (sumOutcome bs cs) buf) (c .of-written .result) _ (Sums bs cs (w .last .1 .1 .0)) (c .of-written .ensures) back (w .ensures)
 
 pub nxa-sum-spec : {M : Type 1} → statement M
 nxa-sum-spec = tie.close (tie.spec sum-requires of-written-requires same-length returns)

@@ -3,7 +3,8 @@ use mathlib.Core.Path.{refl, sym, ap, _∙_}
 use denote.Ref.{now}
 use lib.ListN.{length}
 use Rattle.operands.proofs.PairLaws.{both-passed}
-use Rattle.results.specs.Results.{refusedAs, Operands}
+use Rattle.operands.specs.Operands.{Operands}
+use Rattle.results.specs.Results.{pairRefusal}
 use Rattle.operations.proofs.OperationLaws.{sum-refused, sum-service}
 use borrow.Author.Needs.{needs}
 use Rattle.operations.proofs.sum.Statement.{statement}
@@ -30,7 +31,7 @@ returns c =
     let a = c .before .before .before .before .before .before .before .args in
     let told = c .before .enum-told2 .given in
     let o = sum-refused (now (a .first)) (now (a .second)) (length (now (a .out))) (told .0 .0) (told .0 .1 .0) (told .0 .1 .1 .0) (sym (c .before .before .before .check-pair .ensures) ∙ told .1) in
-    sum-service (now (a .first)) (now (a .second)) (now (a .out)) .0 (told .0 .0) (told .0 .1 .0) (told .0 .1 .1 .0) (c .refuse .result) o (c .refuse .ensures ∙ ap refusedAs (told .1))
+    sum-service (now (a .first)) (now (a .second)) (now (a .out)) .0 (told .0 .0) (told .0 .1 .0) (told .0 .1 .1 .0) (c .refuse .result) o (c .refuse .ensures ∙ ap pairRefusal (told .1))
 
 add-records-requires : tie.Need-add-records-requires
 add-records-requires c κs = (passed (c .before), refl)

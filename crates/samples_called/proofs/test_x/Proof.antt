@@ -2,7 +2,7 @@
 use mathlib.Core.Path.{_∙_}
 use borrow.Author.Needs.{needs}
 use Rattle.record.specs.Bytes.{bytesOf, allBytes}
-use Rattle.catalogue.specs.Words.{wordsOf}
+use Rattle.catalogue.specs.Words.{entryWords}
 use Rattle.samples.specs.Table.{x12, samples}
 use Rattle.samples.proofs.Samples.{samples-returned}
 use Rattle.samples_called.proofs.test_x.Statement.{statement}
@@ -15,7 +15,7 @@ test-requires : tie.Need-test-requires
 test-requires c κs = search needs
 
 returns : tie.Need-returns
-unfolding samples x12 allBytes bytesOf wordsOf
+unfolding samples x12 allBytes bytesOf entryWords
 returns c = (c .test .ensures, λ o. c .test .ensures ∙ samples-returned .0 .0 _ o)
 
 pub test-x-spec : {M : Type 1} → statement M
