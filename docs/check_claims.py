@@ -4,8 +4,9 @@
 A cell names things in backquotes. In a column headed
   definition   a name that a file of some crates/CRATE/specs defines; with (crate/File) after it, that file does
   promise      a function of some crates/CRATE/src, an `ensures NAME` of one, or a law of some crates/CRATE/proofs; likewise (crate/File)
-  must-fail    CRATE/EDIT, without backquotes: crates/CRATE/must-fail/EDIT.edit
+  must-fail    CRATE/EDIT, without backquotes: crates/CRATE/must-fail/EDIT.edit; so under "nearest in code"
   test         a path, without backquotes: below the repository, tests/ or crates/
+The table whose first column is headed must-fail lists the edits that change no code: those of the tree, no more and no fewer.
 Prints each name that is not found and ends with status 1 if there is one.
 """
 import pathlib
@@ -76,7 +77,7 @@ def missing(header, cell):
         return [name for name, where in quoted(cell) if not definition(name, where)]
     if header == "promise":
         return [name for name, where in quoted(cell) if not promise(name, where)]
-    if header == "must-fail":
+    if header in ("must-fail", "nearest in code"):
         return [edit for edit in edits(cell) if not (CRATES / edit.strip().replace("/", "/must-fail/")).with_suffix(".edit").is_file()]
     if header == "test":
         return [test for test in tests(cell) if not any(found(base, test.split(" ")[0]) for base in (ROOT, ROOT / "tests", CRATES))]
@@ -87,8 +88,14 @@ def found(base, name):
     return (base / name).exists() or any(base.glob(name + ".*"))
 
 
+def uncoded():
+    """The edits of the tree that name a file outside src/."""
+    texts = {f"{path.parts[-3]}/{path.stem}": path.read_text(encoding="utf-8") for path in CRATES.glob("*/must-fail/*.edit")}
+    return {edit for edit, text in texts.items() if any(not name.startswith("src/") for name in re.findall(r"^file: (.*)$", text, re.M))}
+
+
 def main():
-    headers, wrong, count = [], 0, 0
+    headers, wrong, count, listed = [], 0, 0, set()
     for number, line in enumerate((ROOT / "docs/CLAIMS.md").read_text(encoding="utf-8").splitlines(), 1):
         if not line.startswith("|"):
             headers = []
@@ -103,10 +110,15 @@ def main():
             print(f"docs/CLAIMS.md:{number}: {len(cells)} cells under {len(headers)} headers")
             wrong += 1
         count += 1
+        if headers[0] == "must-fail":
+            listed.update(edits(cells[0]))
         for header, cell in zip(headers, cells):
             for name in missing(header, cell):
                 print(f"docs/CLAIMS.md:{number}: {header} `{name}` is not in the tree")
                 wrong += 1
+    for edit in sorted(listed ^ uncoded()):
+        print(f"docs/CLAIMS.md: {edit} is {'an edit of code' if edit in listed else 'no edit of code'}, which the last table has otherwise")
+        wrong += 1
     print(f"claims: {count} lines, {wrong} names not found")
     return 1 if wrong or count == 0 else 0
 

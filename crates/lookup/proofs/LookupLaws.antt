@@ -10,7 +10,7 @@ use native.Mathlib.Omega.{arith}
 use lib.ListN.{length, getD, set, length-set}
 use lib.Seq.{getD-set-same, getD-set-other}
 use lib.Pow.{pow-pos, shr-shr, split}
-use lib.Bits.{bitAnd, bitXor, and-le-r, xor-zero-l, xor-zero-r, xor-shifted, xor-comm}
+use lib.Bits.{bitAnd, bitXor, and-le-r, and-mask, mask-lt, xor-zero-l, xor-zero-r, xor-shifted, xor-comm}
 use Rattle.automata.specs.Xor.{_⊕_}
 use Rattle.automata.specs.Mask.{bitOf}
 use Rattle.automata.proofs.Xor.{xor-cong, xor-none, xor-append}
@@ -154,11 +154,15 @@ lookup-none x M = refl
 pub bits-none : (x : ℕ) → x ≡ x / 2 ^ 0
 bits-none x = sym (div-one x)
 
+-- The four bits that name an entry.
+pub low-four : (z : ℕ) → bitAnd z 15 < 16
+low-four z = mask-lt z 4
+
 -- Group g: z are the bits to come, y is the product with the groups below g.
-pub lookup-step : (k g : ℕ) (M : ℕ → ℕ) (t : List ℕ) (x z y : ℕ) → Tabled k M t → g < k → z ≡ x / 2 ^ (g * 4) → y ≡ product (g * 4) x M → bitXor y (getD t (g * 16 + z % 16) 0) ≡ product ((g + 1) * 4) x M
+pub lookup-step : (k g : ℕ) (M : ℕ → ℕ) (t : List ℕ) (x z y : ℕ) → Tabled k M t → g < k → z ≡ x / 2 ^ (g * 4) → y ≡ product (g * 4) x M → bitXor y (getD t (g * 16 + bitAnd z 15) 0) ≡ product ((g + 1) * 4) x M
 unfolding Tabled
 lookup-step k g M t x z y T h ez ey =
-    ap₂ bitXor ey (T g (z % 16) h (mod-lt z (omega arith)) ∙ product-mod 4 z N ∙ ap (λ w. product 4 w N) ez) ∙ sym (product-append (g * 4) 4 x M) ∙ ap (λ n. product n x M) next
+    ap₂ bitXor ey (T g (bitAnd z 15) h (low-four z) ∙ ap (λ v. product 4 v N) (and-mask z 4) ∙ product-mod 4 z N ∙ ap (λ w. product 4 w N) ez) ∙ sym (product-append (g * 4) 4 x M) ∙ ap (λ n. product n x M) next
   where
     N : ℕ → ℕ
     N i = M (g * 4 + i)

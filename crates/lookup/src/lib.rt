@@ -86,8 +86,8 @@ pub fn times(tab: &Lookup, k: usize, x: Row) -> Row
     let mut y: u64 = 0;
     let mut g: usize = 0;
     while g < k {
-        y ^= tab[g * 16 + (z % 16) as usize];
-        z = z / 16;
+        y ^= tab[g * 16 + (z & 15) as usize];
+        z >>= 4;
         g += 1;
     }
     Row { bits: y }

@@ -5,7 +5,7 @@ use native.Mathlib.Omega.{arith}
 use Rattle.rows.specs.Row.{mask}
 use Rattle.rows.specs.Product.{product}
 use Rattle.lookup.specs.Lookup.{Tabled}
-use Rattle.lookup.proofs.LookupLaws.{lookup-none, bits-none, lookup-step, bits-step}
+use Rattle.lookup.proofs.LookupLaws.{lookup-none, bits-none, low-four, lookup-step, bits-step}
 use Rattle.lookup.proofs.times.Statement.{statement}
 use Rattle.lookup.proofs.times.Tie as tie
 
@@ -22,13 +22,13 @@ mul-y : tie.Need-mul-y Inv-loop μ-loop
 mul-y c = omega arith
 
 add-y : tie.Need-add-y Inv-loop μ-loop
-add-y c = omega arith
+add-y c = omega (arith, low-four (c .before .loop .z))
 
 mul-y-2 : tie.Need-mul-y-2 Inv-loop μ-loop
-mul-y-2 c = omega arith
+mul-y-2 c = omega (arith, low-four (c .before .loop .z))
 
 element-copy-out-y : tie.Need-element-copy-out-y Inv-loop μ-loop
-element-copy-out-y c = omega arith
+element-copy-out-y c = omega (arith, low-four (c .before .loop .z))
 
 add-g : tie.Need-add-g Inv-loop μ-loop
 add-g c = omega arith
