@@ -90,12 +90,31 @@ module _ (s : List ℕ) where
         let k≡ : suc k - 1 ≡ k = omega arith in
         ap (onward s) (e ∙ ap (partOfIndex s) k≡) ∙ sym (place-read k)
 
+    place-on : (k start next : ℕ) → partOfIndex s k ≡ Whole start next → placeOf s (suc k) ≡ readTo s (suc k)
+    place-on k start next e = place-read k ∙ ap (onward s) e ∙ sym (moved k (Whole start next) e)
+
     -- Until marking ends, the record of each index stands where the reader does.
     pub place-reader : (k : ℕ) → placeOf s k < length s → placeOf s k ≡ readTo s k
     place-reader zero more = place-first ∙ sym (read-first s)
     place-reader (suc k) more = go (partOfIndex s k) refl
       where
         go : (p : Part) → partOfIndex s k ≡ p → placeOf s (suc k) ≡ readTo s (suc k)
-        go (Whole start next) e = place-read k ∙ ap (onward s) e ∙ sym (moved k (Whole start next) e)
+        go (Whole start next) e = place-on k start next e
         go (Refused number place) e = absurd (omega (arith, place-read k ∙ ap (onward s) e))
         go End e = absurd (omega (arith, place-read k ∙ ap (onward s) e))
+
+    -- What the reader gives out whole at its call of an index is the record of that index.
+    pub place-given : (k start next : ℕ) → partOfIndex s k ≡ Whole start next → placeOf s k ≡ readTo s k
+    place-given zero start next w = place-first ∙ sym (read-first s)
+    place-given (suc k) start next w = go (partOfIndex s k) refl
+      where
+        go : (p : Part) → partOfIndex s k ≡ p → placeOf s (suc k) ≡ readTo s (suc k)
+        go (Whole start′ next′) e = place-on k start′ next′ e
+        go (Refused number place) e =
+            let stays = ap (partAt s) (moved k (Refused number place) e) in
+            let z : _≡_ {A = ℕ} 0 1 = cc in
+            absurd (omega arith)
+        go End e =
+            let stays = ap (partAt s) (moved k End e) in
+            let z : _≡_ {A = ℕ} 0 1 = cc in
+            absurd (omega arith)
