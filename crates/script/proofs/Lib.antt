@@ -1,3 +1,5 @@
 -- Laws that belong to no one function.
+pub mod EndToEnd
 pub mod Parts
+pub mod Reading
 pub mod Whole

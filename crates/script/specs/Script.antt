@@ -1,11 +1,14 @@
 -- What stands at a position of a script: records end to end (01: Marking a script).
 --   partAt s at             a whole record and where the next one starts, a refusal 1 to 6, or the end
 --   afterPart p at          where a reader stands afterwards: past a record, else where it was
+--   readTo s k              where the reader of a script stands after k calls: from the start on, past one record after another
+--   partOfIndex s k         what it gives out at its call of index k
+--   isLast p left           whether a reader that has given out a part, of which `left` more are wanted, is asked no more
 --   bytesAt s start next    the bytes of a record
-use mathlib.Core.Bool.{cond}
+use mathlib.Core.Bool.{Bool, true, cond}
 use mathlib.Core.List.{List}
-use Prim.Native.Nat.{ℕ, _+_, _-_}
-use lib.Dec.{ltb, leb}
+use Prim.Native.Nat.{ℕ, zero, suc, _+_, _-_}
+use lib.Dec.{ltb, leb, eqb}
 use lib.ListN.{length, take, drop}
 use Rattle.record.specs.Record.{frontOf, needOf}
 use Rattle.record.specs.declared.Checked.{Checked}
@@ -33,6 +36,18 @@ abbrev pub afterPart : Part → ℕ → ℕ
 afterPart (Whole start next) at = next
 afterPart (Refused number place) at = at
 afterPart End at = at
+
+unfoldable pub readTo : List ℕ → ℕ → ℕ
+readTo s zero = 0
+readTo s (suc k) = afterPart (partAt s (readTo s k)) (readTo s k)
+
+abbrev pub partOfIndex : List ℕ → ℕ → Part
+partOfIndex s k = partAt s (readTo s k)
+
+abbrev pub isLast : Part → ℕ → Bool
+isLast (Whole start next) left = eqb left 0
+isLast (Refused number place) left = true
+isLast End left = true
 
 abbrev pub bytesAt : List ℕ → ℕ → ℕ → List ℕ
 bytesAt s start next = take (next - start) (drop start s)

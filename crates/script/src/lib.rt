@@ -1,6 +1,6 @@
 // The reader of a script: records end to end in a lent slice, given out one after another.
 ghost use mathlib.Core.Path.{_≡_};
-ghost use Rattle.script.specs.Script.{passed, partAt, afterPart};
+ghost use Rattle.script.specs.Script.{passed, partAt, afterPart, isLast, partOfIndex};
 use record::Checked;
 
 // What stands at a position of a script: a whole record and where the next one starts, a refusal 1 to 6, or the end.
@@ -83,10 +83,39 @@ impl<'a> Script<'a> {
     }
 }
 
-// What stands at a position of a lent script, through the reader: whoever calls this needs no struct.
+// What stands at a position of a lent script.
 pub fn part_from(script: &[u8], at: usize) -> Part
     ensures { λ r. ⌜ r ≡ partAt (now (script .entry)) at ⌝ }
 {
-    let mut reader = Script::resume(script, at);
-    reader.next()
+    part_at(script, at)
+}
+
+// Whether a part is the last that is asked of a reader: as many more as are left are asked for after a whole record, and none after
+// a refusal or at the end, where the reader stays.
+fn last(part: Part, left: usize) -> bool
+    ensures { λ r. ⌜ r ≡ isLast part left ⌝ }
+{
+    match part {
+        Part::Whole { start: _, next: _ } => left == 0,
+        Part::Refused {
+            number: _,
+            place: _,
+        } => true,
+        Part::End => true,
+    }
+}
+
+// What the reader of a script gives out at its call of an index. One reader is asked again and again: whoever calls this needs no struct.
+pub fn part_of_index(script: &[u8], index: usize) -> Part
+    ensures { λ r. ⌜ r ≡ partOfIndex (now (script .entry)) index ⌝ }
+{
+    let mut reader = Script::resume(script, 0);
+    let mut left = index;
+    loop {
+        let part = reader.next();
+        if last(part, left) {
+            return part;
+        }
+        left -= 1;
+    }
 }

@@ -11,7 +11,7 @@ use script::Part;
 pub fn key_end(script: &[u8]) -> usize
     ensures { λ r. ⌜ (r ≡ afterPart (partAt (now (script .entry)) 0) 0) × (r ≤ length (now (script .entry))) ⌝ }
 {
-    match script::part_from(script, 0) {
+    match script::part_at(script, 0) {
         Part::Whole { start: _, next } => next,
         Part::Refused {
             number: _,
@@ -27,7 +27,7 @@ pub fn past(script: &[u8], index: usize, at: usize) -> usize
     ensures { λ r. ⌜ r ≡ pastOf (now (script .entry)) index at ⌝ }
 {
     let end = script.len();
-    let Part::Whole { start, next } = script::part_from(script, at) else {
+    let Part::Whole { start, next } = script::part_at(script, at) else {
         return end;
     };
     if index != 0 {
@@ -42,18 +42,24 @@ pub fn past(script: &[u8], index: usize, at: usize) -> usize
     }
 }
 
-// Where the record of an index stands; the script's end where marking ends before it.
+// Where the record of an index stands; the script's end where marking ends before it. Past the key it is where the reader of the script
+// stands after as many records.
 pub fn place(script: &[u8], index: usize) -> usize
     ensures { λ r. ⌜ r ≡ placeOf (now (script .entry)) index ⌝ }
 {
-    let mut at = 0;
-    let mut i = 0;
-    while i < index {
-        if script.len() <= at {
-            return script.len();
-        }
-        at = past(script, i, at);
-        i += 1;
+    if index == 0 {
+        return 0;
     }
-    at
+    let first = past(script, 0, 0);
+    if first == script.len() {
+        return first;
+    }
+    match script::part_of_index(script, index - 1) {
+        Part::Whole { start: _, next } => next,
+        Part::Refused {
+            number: _,
+            place: _,
+        } => script.len(),
+        Part::End => script.len(),
+    }
 }

@@ -12,19 +12,19 @@ use Rattle.walk.proofs.past.Tie as tie
 
 -- The record that stands at the position.
 whole : (c : tie.After-start) → Whole (c .start .given .0 .0) (c .start .given .0 .1 .0) ≡ partAt (now (c .before .before .before .before .args .script)) (c .before .before .before .before .args .at)
-whole c = sym (c .start .given .1) ∙ c .before .before .part-from .ensures
+whole c = sym (c .start .given .1) ∙ c .before .before .part-at .ensures
 
 stands : (c : tie.After-start) → Stands (now (c .before .before .before .before .args .script)) (c .before .before .before .before .args .at) (c .start .given .0 .0) (c .start .given .0 .1 .0)
 stands c = whole-stands _ _ _ _ (sym (whole c))
 
-part-from-requires : tie.Need-part-from-requires
-part-from-requires c κs = search needs
+part-at-requires : tie.Need-part-at-requires
+part-at-requires c κs = search needs
 
 enum-known-start : tie.Need-enum-known-start
 enum-known-start c = search needs
 
 returns : tie.Need-returns
-returns c = let a = c .before .before .before .args in past-stops (now (a .script)) (a .index) (a .at) (c .before .part-from .result) (c .before .part-from .ensures) (c .match .keys2)
+returns c = let a = c .before .before .before .args in past-stops (now (a .script)) (a .index) (a .at) (c .before .part-at .result) (c .before .part-at .ensures) (c .match .keys2)
 
 returns-2 : tie.Need-returns-2
 returns-2 c = let a = c .before .before .before .before .before .before .args in past-answer (now (a .script)) (a .index) (a .at) _ _ (whole (c .before .before)) (λ z. omega arith)
@@ -62,7 +62,7 @@ pub past-spec : {M : Type 1} → statement M
 past-spec =
     tie.close
     (tie.spec
-    part-from-requires
+    part-at-requires
     enum-known-start
     returns
     returns-2

@@ -1,67 +1,77 @@
--- `place`: the position is the place of the record i. The measure is what is left of the index.
+-- `place`: the key where it stands, the script's end where the key stops the marking, else where the reader stands.
 use mathlib.Core.Path.{_≡_, refl, sym, ap, _∙_}
-use Prim.Native.Nat.{_-_, _≤_}
+use Prim.Native.Nat.{ℕ}
 use native.Mathlib.Omega.{arith}
-use native.Mathlib.Numerals.{add-one}
 use denote.Ref.{now}
-use lib.ListN.{length}
+use Rattle.script.specs.declared.Part.{Part}
+use Rattle.walk.specs.Walk.{placeOf}
+use Rattle.walk.proofs.Reader.{onward, key-only, key-passed, place-first, place-second, place-after}
 use borrow.Author.Needs.{needs}
-use Rattle.walk.specs.Walk.{placeOf, pastOf}
-use Rattle.walk.proofs.Places.{place-ended}
 use Rattle.walk.proofs.place.Statement.{statement}
 use Rattle.walk.proofs.place.Tie as tie
 
-abbrev Inv-loop : tie.InvT-loop
-Inv-loop script index at₀ i₀ at i = (i ≤ index) × (at ≡ placeOf script i)
+-- Where the reader has been brought to.
+read : (c : tie.After-part-of-index) → onward (now (c .before .before .before .before .before .args .script)) (c .part-of-index .result) ≡ placeOf (now (c .before .before .before .before .before .args .script)) (c .before .before .before .before .before .args .index)
+read c =
+    let a = c .before .before .before .before .before .args in
+    let on = key-passed (now (a .script)) (λ e. c .before .if2 .left (c .before .before .past .ensures ∙ sym (place-second (now (a .script))) ∙ e)) in
+    place-after (now (a .script)) on (a .index) (omega arith) (c .part-of-index .result) (c .part-of-index .ensures)
 
-abbrev μ-loop : tie.MeasureT-loop
-μ-loop script index at₀ i₀ at i = index - i
-
-loop-holds : tie.Need-loop-holds Inv-loop μ-loop
-unfolding placeOf
-loop-holds c = (omega arith, refl)
-
-returns : tie.Need-returns Inv-loop μ-loop
+returns : tie.Need-returns
 returns c =
-    let l = c .before .before in
-    let a = l .before .before .args in
-    let ended : length (now (a .script)) ≤ placeOf (now (a .script)) (l .loop .i) = rw (l .loop .inv .1) at (c .if1 .taken) in
-    place-ended (now (a .script)) (l .loop .i) (a .index) ended (c .before .loop-test .taken)
+    let a = c .before .before .args in
+    sym (ap (placeOf (now (a .script))) (c .if1 .taken) ∙ place-first (now (a .script)))
 
-past-requires : tie.Need-past-requires Inv-loop μ-loop
+past-requires : tie.Need-past-requires
 past-requires c κs = search needs
 
-add-i : tie.Need-add-i Inv-loop μ-loop
-add-i c = omega arith
-
-loop-less : tie.Need-loop-less Inv-loop μ-loop
-loop-less c = omega arith
-
-loop-again : tie.Need-loop-again Inv-loop μ-loop
-unfolding placeOf
-loop-again c =
-    let l = c .before .before .before in
-    let s = now (l .before .before .args .script) in
-    let next : c .past .result ≡ pastOf s (l .loop .i) (l .loop .at) = c .past .ensures in
-    (omega arith, next ∙ ap (pastOf s (l .loop .i)) (l .loop .inv .1) ∙ sym (ap (placeOf s) (add-one (l .loop .i))))
-
-returns-2 : tie.Need-returns-2 Inv-loop μ-loop
+returns-2 : tie.Need-returns-2
 returns-2 c =
-    let l = c .before in
-    let a = l .before .before .args in
-    let done : l .loop .i ≡ a .index = omega arith in
-    l .loop .inv .1 ∙ ap (placeOf (now (a .script))) done
+    let a = c .before .before .before .before .args in
+    c .if2 .taken ∙ key-only (now (a .script)) (place-second (now (a .script)) ∙ sym (c .before .past .ensures) ∙ c .if2 .taken) (a .index) (omega arith)
+
+sub-part-of-index : tie.Need-sub-part-of-index
+sub-part-of-index c = search needs
+
+part-of-index-requires : tie.Need-part-of-index-requires
+part-of-index-requires c κs = search needs
+
+enum-known-next : tie.Need-enum-known-next
+enum-known-next c = search needs
+
+enum-told : tie.Need-enum-told
+enum-told c = search needs
+
+enum-told-2 : tie.Need-enum-told-2
+enum-told-2 c = search needs
+
+returns-3 : tie.Need-returns-3
+returns-3 c =
+    let b = c .before .before .before in
+    ap (onward (now (b .before .before .before .before .before .args .script))) (sym (c .before .next .given .1)) ∙ read b
+
+returns-4 : tie.Need-returns-4
+returns-4 c =
+    let b = c .before .before in
+    ap (onward (now (b .before .before .before .before .before .args .script))) (sym (c .enum-told .given .1)) ∙ read b
+
+returns-5 : tie.Need-returns-5
+returns-5 c =
+    let b = c .before .before in
+    ap (onward (now (b .before .before .before .before .before .args .script))) (sym (c .enum-told2 .given .1)) ∙ read b
 
 pub place-spec : {M : Type 1} → statement M
 place-spec =
     tie.close
     (tie.spec
-    Inv-loop
-    μ-loop
-    loop-holds
     returns
     past-requires
-    add-i
-    loop-less
-    loop-again
-    returns-2)
+    returns-2
+    sub-part-of-index
+    part-of-index-requires
+    enum-known-next
+    enum-told
+    enum-told-2
+    returns-3
+    returns-4
+    returns-5)
