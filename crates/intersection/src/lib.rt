@@ -2,14 +2,13 @@
 ghost use mathlib.Core.Path.{_≡_};
 ghost use Prim.Native.Nat.{ℕ, _+_, _*_, _^_, _≤_, _<_};
 ghost use lib.ListN.{length};
-ghost use Rattle.automata.specs.Automaton.{accepts};
 ghost use Rattle.automata.specs.Language.{intersection};
 ghost use Rattle.rows.specs.Row.{width, mask};
 ghost use Rattle.rows.specs.Table.{blocks, size, at};
-ghost use Rattle.rows.specs.Machine.{automatonIn, Valid};
+ghost use Rattle.rows.specs.Machine.{Valid};
 ghost use Rattle.direct_sum.specs.Filled.{Filled};
 ghost use Rattle.record.specs.Outcome.{answerIn, bufferIn};
-ghost use Rattle.results.specs.Built.{Built};
+ghost use Rattle.results.specs.Built.{heldWords, Built};
 ghost use Rattle.intersection.specs.Meet.{meetOutcome, Meets};
 ghost use Rattle.intersection.specs.Kron.{kron, crossed};
 use operands::Pair;
@@ -68,7 +67,7 @@ fn cross(t: &Table, u: &Table, out: &mut Table, a: usize, n: usize, m: usize)
 // The product automaton of two automata over the same letters, its rows in s.
 fn product(t: &Table, g: Machine, u: &Table, h: Machine, s: &mut Table) -> Machine
     requires { ⌜ Valid (now t) g × Valid (now u) h × (h .letters ≡ g .letters) × (g .states * h .states ≤ width) × (length (now s) ≡ size) ⌝ }
-    ensures { λ r. ⌜ Built (g .letters) (intersection (accepts (automatonIn (now (t .entry)) g)) (accepts (automatonIn (now (u .entry)) h))) (now (s .exit)) r ⌝ }
+    ensures { λ r. ⌜ Built (g .letters) (intersection (heldWords (now (t .entry)) g) (heldWords (now (u .entry)) h)) (now (s .exit)) r ⌝ }
 {
     let n = g.states;
     let m = h.states;

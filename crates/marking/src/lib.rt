@@ -70,7 +70,7 @@ fn key_part_line(line: &mut [u8], script: &[u8], at: usize) -> usize
     requires { ⌜ longest ≤ length (now line) ⌝ }
     ensures { λ r. ⌜ Begins (now (line .exit)) r (keyPartLine (now (script .entry)) (partAt (now (script .entry)) at)) ⌝ }
 {
-    match script::part_from(script, at) {
+    match script::part_at(script, at) {
         Part::Whole { start, next } => key_line(line, &script[start..next]),
         Part::Refused { number, place } => lines::refused_line(line, 0, number, place),
         Part::End => lines::refused_line(line, 0, 1, 0),
@@ -82,7 +82,7 @@ fn answer_part_line(line: &mut [u8], script: &[u8], index: usize, at: usize) -> 
     requires { ⌜ longest ≤ length (now line) ⌝ }
     ensures { λ r. ⌜ Begins (now (line .exit)) r (answerPartLine (now (script .entry)) index (partAt (now (script .entry)) at)) ⌝ }
 {
-    match script::part_from(script, at) {
+    match script::part_at(script, at) {
         Part::Whole { start, next } => {
             let end = walk::key_end(script);
             answer_line(line, index, &script[..end], &script[start..next])

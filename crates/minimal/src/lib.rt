@@ -1,12 +1,10 @@
 // The minimal record of a record: from bytes to bytes.
 ghost use mathlib.Core.Path.{_≡_};
 ghost use lib.ListN.{length};
-ghost use Rattle.rows.specs.Row.{mask};
 ghost use Rattle.rows.specs.Table.{size};
-ghost use Rattle.minimisation.specs.Minimises.{Minimises};
-ghost use Rattle.record.specs.Record.{lettersOf, WellFormed, automatonOf};
+ghost use Rattle.record.specs.Record.{WellFormed};
 ghost use Rattle.record.specs.Outcome.{bufferIn};
-ghost use Rattle.minimal.specs.Minimal.{minimalOutcome, minimisedAs, minimalAnswer, GivesMinimal};
+ghost use Rattle.minimal.specs.Minimal.{minimalOutcome, minimisedAs, minimalAnswer, MinimalIn, GivesMinimal};
 use record::Checked;
 use record::Written;
 use rows::Machine;
@@ -49,7 +47,7 @@ fn with_dimension(w: Written, d: usize) -> Minimised
 // The minimal automaton of a well-formed record, its rows in out.
 pub fn minimal_form(bytes: &[u8], out: &mut Table) -> Machine
     requires { ⌜ WellFormed (now bytes) × (length (now out) ≡ size) ⌝ }
-    ensures { λ r. ⌜ (r .letters ≡ lettersOf (now (bytes .entry))) × Minimises (lettersOf (now (bytes .entry))) (automatonOf (now (bytes .entry))) (now (out .exit)) (r .states) (mask (r .initial)) (mask (r .finals)) ⌝ }
+    ensures { λ r. ⌜ MinimalIn (now (bytes .entry)) (now (out .exit)) r ⌝ }
 {
     let mut b = [0u64; 192];
     let mut t = [0u64; 512];

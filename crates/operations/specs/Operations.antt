@@ -3,6 +3,7 @@
 --   unaryOutcome k bs room      the operation k on one record: complement or mirror
 --   complementOutcome bs room
 --   mirrorOutcome bs room
+--   sumWords bs cs              the words that just one of two records accepts
 --   Sums bs cs exit r           what is claimed of the answer r and the buffer at exit, over all words and all automata
 --   Complements bs exit r
 --   Mirrors bs exit r
@@ -42,9 +43,12 @@ mirrorOutcome = unaryOutcome Mirror
 
 -- ---- what is claimed
 
+abbrev pub sumWords : List ℕ → List ℕ → Language
+sumWords bs cs = symmetricDifference (languageOf bs) (languageOf cs)
+
 -- The minimal record of the words that just one of the two accepts.
 abbrev pub Sums : List ℕ → List ℕ → List ℕ → Written → Type 0
-Sums bs cs exit r = Gives (lettersOf bs) (symmetricDifference (languageOf bs) (languageOf cs)) (Operands bs cs) exit r
+Sums bs cs exit r = Gives (lettersOf bs) (sumWords bs cs) (Operands bs cs) exit r
 
 -- The minimal record of the words over the letters that the record does not accept.
 abbrev pub Complements : List ℕ → List ℕ → Written → Type 0

@@ -2,17 +2,16 @@
 ghost use mathlib.Core.Path.{_≡_};
 ghost use Prim.Native.Nat.{_+_, _≤_, _<_};
 ghost use lib.ListN.{length};
-ghost use Rattle.automata.specs.Automaton.{accepts};
 ghost use Rattle.automata.specs.Language.{symmetricDifference, complement, reversal};
 ghost use Rattle.rows.specs.Row.{width, mask};
 ghost use Rattle.rows.specs.Table.{blocks, size};
-ghost use Rattle.rows.specs.Machine.{automatonIn, Valid};
+ghost use Rattle.rows.specs.Machine.{Valid};
 ghost use Rattle.direct_sum.specs.Filled.{Filled};
 ghost use Rattle.record.specs.Record.{lettersOf, WellFormed, languageOf};
 ghost use Rattle.record.specs.Outcome.{answerIn, bufferIn};
 ghost use Rattle.operands.specs.Operands.{Operands};
-ghost use Rattle.results.specs.Built.{Built};
-ghost use Rattle.operations.specs.Operations.{sumOutcome, unaryLanguage, unaryOutcome, complementOutcome, mirrorOutcome, Sums, Operates, Complements, Mirrors};
+ghost use Rattle.results.specs.Built.{heldWords, Built};
+ghost use Rattle.operations.specs.Operations.{sumOutcome, sumWords, unaryLanguage, unaryOutcome, complementOutcome, mirrorOutcome, Sums, Operates, Complements, Mirrors};
 use operands::Pair;
 use record::Checked;
 use record::Written;
@@ -41,7 +40,7 @@ fn machine(states: usize, letters: usize, initial: Row, finals: Row) -> Machine
 // Two automata over the same letters side by side, the rows in t.
 fn add(t: &mut Table, g: Machine, u: &Table, h: Machine) -> Machine
     requires { ⌜ Valid (now t) g × Valid (now u) h × (h .letters ≡ g .letters) × (g .states < width) × (g .states + h .states ≤ width) ⌝ }
-    ensures { λ r. ⌜ Built (g .letters) (symmetricDifference (accepts (automatonIn (now (t .entry)) g)) (accepts (automatonIn (now (u .entry)) h))) (now (t .exit)) r ⌝ }
+    ensures { λ r. ⌜ Built (g .letters) (symmetricDifference (heldWords (now (t .entry)) g) (heldWords (now (u .entry)) h)) (now (t .exit)) r ⌝ }
 {
     let n = g.states;
     let k = h.states;
@@ -74,7 +73,7 @@ fn all_words(t: &mut Table, a: usize, one: Row)
 // The sum of two well-formed records over the same letters, its rows in s.
 fn add_records(first: &[u8], second: &[u8], s: &mut Table) -> Machine
     requires { ⌜ Operands (now first) (now second) × (length (now s) ≡ size) ⌝ }
-    ensures { λ r. ⌜ Built (lettersOf (now (first .entry))) (symmetricDifference (languageOf (now (first .entry))) (languageOf (now (second .entry)))) (now (s .exit)) r ⌝ }
+    ensures { λ r. ⌜ Built (lettersOf (now (first .entry))) (sumWords (now (first .entry)) (now (second .entry))) (now (s .exit)) r ⌝ }
 {
     let mut u = [0u64; 512];
     let g = codec::read(first, s);

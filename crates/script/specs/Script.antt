@@ -1,18 +1,22 @@
 -- What stands at a position of a script: records end to end (01: Marking a script).
 --   partAt s at             a whole record and where the next one starts, a refusal 1 to 6, or the end
 --   afterPart p at          where a reader stands afterwards: past a record, else where it was
+--   Advances r p r′         a reader r gives out the part p that stands where it is, and is then r′: past it, in the same script
 --   readTo s k              where the reader of a script stands after k calls: from the start on, past one record after another
 --   partOfIndex s k         what it gives out at its call of index k
 --   isLast p left           whether a reader that has given out a part, of which `left` more are wanted, is asked no more
 --   bytesAt s start next    the bytes of a record
+use mathlib.Core.Path.{_≡_}
 use mathlib.Core.Bool.{Bool, true, cond}
 use mathlib.Core.List.{List}
 use Prim.Native.Nat.{ℕ, zero, suc, _+_, _-_}
 use lib.Dec.{ltb, leb, eqb}
 use lib.ListN.{length, take, drop}
+use denote.Ref.{now}
 use Rattle.record.specs.Record.{frontOf, needOf}
 use Rattle.record.specs.declared.Checked.{Checked}
 use Rattle.record.specs.declared.Checked.the-variants.{Good, Refused as Bad}
+use Rattle.script.specs.declared.Script.{Script}
 use Rattle.script.specs.declared.Part.{Part}
 use Rattle.script.specs.declared.Part.the-variants.{Whole, Refused, End}
 
@@ -36,6 +40,9 @@ abbrev pub afterPart : Part → ℕ → ℕ
 afterPart (Whole start next) at = next
 afterPart (Refused number place) at = at
 afterPart End at = at
+
+abbrev pub Advances : Script → Part → Script → Type 0
+Advances r p r′ = (p ≡ partAt (now (r .bytes)) (r .at)) × ((r′ .bytes ≡ r .bytes) × (r′ .at ≡ afterPart p (r .at)))
 
 unfoldable pub readTo : List ℕ → ℕ → ℕ
 readTo s zero = 0

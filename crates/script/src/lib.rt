@@ -1,6 +1,6 @@
 // The reader of a script: records end to end in a lent slice, given out one after another.
 ghost use mathlib.Core.Path.{_≡_};
-ghost use Rattle.script.specs.Script.{passed, partAt, afterPart, isLast, partOfIndex};
+ghost use Rattle.script.specs.Script.{passed, partAt, afterPart, Advances, isLast, partOfIndex};
 use record::Checked;
 
 // What stands at a position of a script: a whole record and where the next one starts, a refusal 1 to 6, or the end.
@@ -75,19 +75,12 @@ impl<'a> Script<'a> {
 
     // Gives out what stands where the reader is, and moves the reader past it.
     pub fn next(&mut self) -> Part
-        ensures { λ p. ⌜ (p ≡ partAt (now (now (self .entry) .bytes)) (now (self .entry) .at)) × ((now (self .exit) .bytes ≡ now (self .entry) .bytes) × (now (self .exit) .at ≡ afterPart p (now (self .entry) .at))) ⌝ }
+        ensures { λ p. ⌜ Advances (now (self .entry)) p (now (self .exit)) ⌝ }
     {
         let p = part_at(self.bytes, self.at);
         self.at = after(p, self.at);
         p
     }
-}
-
-// What stands at a position of a lent script.
-pub fn part_from(script: &[u8], at: usize) -> Part
-    ensures { λ r. ⌜ r ≡ partAt (now (script .entry)) at ⌝ }
-{
-    part_at(script, at)
 }
 
 // Whether a part is the last that is asked of a reader: as many more as are left are asked for after a whole record, and none after

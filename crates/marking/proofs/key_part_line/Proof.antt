@@ -13,13 +13,13 @@ use Rattle.marking.proofs.key_part_line.Tie as tie
 
 -- The record that stands at the position.
 whole : (c : tie.After-start) → Whole (c .start .given .0 .0) (c .start .given .0 .1 .0) ≡ partAt (now (c .before .before .before .before .before .args .script)) (c .before .before .before .before .before .args .at)
-whole c = sym (c .start .given .1) ∙ c .before .before .part-from .ensures
+whole c = sym (c .start .given .1) ∙ c .before .before .part-at .ensures
 
 stands : (c : tie.After-start) → Stands (now (c .before .before .before .before .before .args .script)) (c .before .before .before .before .before .args .at) (c .start .given .0 .0) (c .start .given .0 .1 .0)
 stands c = whole-stands _ _ _ _ (sym (whole c))
 
-part-from-requires : tie.Need-part-from-requires
-part-from-requires c κs = search needs
+part-at-requires : tie.Need-part-at-requires
+part-at-requires c κs = search needs
 
 enum-known-start : tie.Need-enum-known-start
 enum-known-start c = search needs
@@ -58,19 +58,19 @@ same-length-2 : tie.Need-same-length-2
 same-length-2 c = search needs
 
 returns-2 : tie.Need-returns-2
-returns-2 c = begins-as (ap (keyPartLine (now (c .before .before .before .before .before .before .before .before .before .before .args .script))) (sym (c .before .before .before .before .before .number .given .1) ∙ c .before .before .before .before .before .before .before .part-from .ensures)) (c .before .before .refused-line .ensures)
+returns-2 c = begins-as (ap (keyPartLine (now (c .before .before .before .before .before .before .before .before .before .before .args .script))) (sym (c .before .before .before .before .before .number .given .1) ∙ c .before .before .before .before .before .before .before .part-at .ensures)) (c .before .before .refused-line .ensures)
 
 same-length-3 : tie.Need-same-length-3
 same-length-3 c = search needs
 
 returns-3 : tie.Need-returns-3
-returns-3 c = begins-as (ap (keyPartLine (now (c .before .before .before .before .before .before .before .before .before .args .script))) (sym (c .before .before .before .before .enum-told .given .1) ∙ c .before .before .before .before .before .before .part-from .ensures)) (c .before .before .refused-line2 .ensures)
+returns-3 c = begins-as (ap (keyPartLine (now (c .before .before .before .before .before .before .before .before .before .args .script))) (sym (c .before .before .before .before .enum-told .given .1) ∙ c .before .before .before .before .before .before .part-at .ensures)) (c .before .before .refused-line2 .ensures)
 
 pub key-part-line-spec : {M : Type 1} → statement M
 key-part-line-spec =
     tie.close
     (tie.spec
-    part-from-requires
+    part-at-requires
     enum-known-start
     sub-key-line
     part-key-line-start

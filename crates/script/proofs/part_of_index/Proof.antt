@@ -55,7 +55,7 @@ use denote.Triple.Table.{entered, cited}
 use denote.Triple.Walked.{says, Stays, stay-none-slice, stay-none, walkOf, goes-none-slice, goes-none, Walks, ends-at, walked, walk-meets}
 use denote.Exit.{yes}
 use denote.Triple.Clauses.{ensured, lasts}
-use Rattle.script.specs.Script.{partAt, afterPart, readTo, partOfIndex, isLast}
+use Rattle.script.specs.Script.{Advances, partAt, afterPart, readTo, partOfIndex, isLast}
 use Rattle.script.specs.declared.Script.{Script}
 use Rattle.script.specs.declared.Part.{Part}
 use Rattle.script.proofs.Reading.{read-first, read-on, last-wanted, more-wanted}
@@ -106,10 +106,7 @@ module _ (s : RefT (List ℕ)) (index : ℕ) where
   Nearer-wf : WellFounded Nearer
   Nearer-wf = InvImage·wf (λ (i : Standing s index). i .left) (Nat·lt-wfRel .wf)
 
-  abbrev Advanced : Script → Part → Script → Type 0
-  Advanced p t z = (t ≡ partAt (now (p .bytes)) (p .at)) × ((z .bytes ≡ p .bytes) × (z .at ≡ afterPart t (p .at)))
-
-  module _ (i : Standing s index) (t : Part) (z : Script) (a : Advanced (i .reader) t z) where
+  module _ (i : Standing s index) (t : Part) (z : Script) (a : Advances (i .reader) t z) where
     given-out : t ≡ partOfIndex (now s) (i .calls)
     given-out = a .0 ∙ (ap (λ (x : RefT (List ℕ)). partAt (now x) (i .reader .at)) (i .same) ∙ ap (partAt (now s)) (i .reached))
 
@@ -293,8 +290,8 @@ module _ {M : Type 1} (𝓤 : URA M) (H : Heap 𝓤) (A : Atoms 𝓤) (W : Given
           -- [what `next` asks; the rest of ν's token; ⊤; the lender's part; what s owns; room for _8; …; _7; …; room for _6; …; room for _5; …; _4; …; …; _2; …; _1; …; room for _0; …]
           calls-at ! fm (Advance 𝓤 H A mem run) known-next (to-advance ν l₃ δ (i .reader)) (and-then ! (load ! (from ! (stop !)) (look ! 7 refl)) (no-more !)) (λ w.
           use1 W (later (some (λ (t : Part). ((‵ (flft (ν ∷ κ) ql) ⊛ ‵ (flft κ qr) ⊛ ‵ ftrue) ⊛ ‵ (P.the-row .own t (w ∷ []))) ⊛ raw (ensured 𝓤 H A advance.ended (advance.clauses 𝓤 H A mem run) (ν ∷ κ, (κ, tt)) (lent l₃ δ (i .reader), tt) tt t)))) (id⊢ 𝓤 _) $ await ! tt $ pick ! (λ t.
-          split ! $ move ! (1 ∷ []) $ use1 W (some (λ (zs : Script × Unit {0}). ‵ (lasts advance.ended (ν ∷ κ, (κ, tt)) (lent l₃ δ (i .reader), tt) zs) ⊛ raw (fact 𝓤 (Advanced s n (i .reader) t (zs .0))))) (id⊢ 𝓤 _) $ pick ! (λ zs.
-          split ! $ move ! (1 ∷ []) $ heard ! (Advanced s n (i .reader) t (zs .0)) (λ a. fsplit ! $
+          split ! $ move ! (1 ∷ []) $ use1 W (some (λ (zs : Script × Unit {0}). ‵ (lasts advance.ended (ν ∷ κ, (κ, tt)) (lent l₃ δ (i .reader), tt) zs) ⊛ raw (fact 𝓤 (Advances (i .reader) t (zs .0))))) (id⊢ 𝓤 _) $ pick ! (λ zs.
+          split ! $ move ! (1 ∷ []) $ heard ! (Advances (i .reader) t (zs .0)) (λ a. fsplit ! $
           -- [the last value; ⊤; the tokens and the part; the rest of ν's token; ⊤; the lender's part; what s owns; room for _8; …]
           move ! (2 ∷ []) $ split ! $ move ! (1 ∷ []) $ peeks ! P.the-row (Is P.the-row) (shows 𝓤 H A P.the-row) t (w ∷ []) (λ is.
           land ! (from ! (stop !)) (init ! 14 refl (part-typed t w is)) $
