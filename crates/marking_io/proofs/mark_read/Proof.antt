@@ -1,0 +1,26 @@
+-- `mark_read`: the length of its buffer, by a law, since the buffer is too long to be counted.
+use mathlib.Core.Path.{_≡_, sym, subst}
+use Prim.Native.Nat.{ℕ, _≤_}
+use native.Mathlib.Omega.{arith}
+use lib.ListN.{length, replicate, length-replicate}
+use Rattle.marking_io.specs.Text.{textRoom}
+use Rattle.marking_io.proofs.mark_read.Statement.{statement}
+use Rattle.marking_io.proofs.mark_read.Tie as tie
+
+zeros : (n : ℕ) → n ≡ length {A = ℕ} (replicate n 0)
+zeros n = sym (length-replicate n 0)
+
+room : (n : ℕ) → textRoom ≤ n → textRoom ≤ length {A = ℕ} (replicate n 0)
+room n h = subst (λ m. textRoom ≤ m) (zeros n) h
+
+slice-aggregate-mark-into : tie.Need-slice-aggregate-mark-into
+slice-aggregate-mark-into c = zeros 699360
+
+mark-into-requires : tie.Need-mark-into-requires
+mark-into-requires c κs = (room 699360 (omega arith), c .before .before .pre)
+
+returns : tie.Need-returns
+returns c = tt
+
+pub mark-read-spec : {M : Type 1} → statement M
+mark-read-spec = tie.close (tie.spec slice-aggregate-mark-into mark-into-requires returns)
