@@ -1,7 +1,8 @@
--- How many bytes were moved: by one call no more than it was lent, into the buffer no more than it has.
-use mathlib.Core.Path.{_≡_, subst}
+-- How many bytes were moved: by one call no more than it was lent, into the buffer no more than it has; and how many a buffer has.
+use mathlib.Core.Path.{_≡_, sym, subst}
 use Prim.Native.Nat.{ℕ, _≤_}
 use native.Mathlib.Omega.{arith}
+use lib.ListN.{length, replicate, length-replicate}
 use Rattle.marking_io.specs.Calls.{Within, Filled}
 use Rattle.marking_io.specs.declared.Call.{Call}
 use Rattle.marking_io.specs.declared.Call.the-variants.{Moved}
@@ -16,3 +17,7 @@ ended-within i k n e f = subst (λ (x : Input). Filled x n) e f
 
 pub full-within : (i : Input) (k n : ℕ) → i ≡ Full k → Filled i n → k ≤ n
 full-within i k n e f = let same : k ≡ n = subst (λ (x : Input). Filled x n) e f in omega arith
+
+-- By a law, since a buffer is too long to be counted.
+pub zeros : (n : ℕ) → n ≡ length {A = ℕ} (replicate n 0)
+zeros n = sym (length-replicate n 0)

@@ -16,7 +16,7 @@ use Rattle.marking.proofs.Bound.{line-index}
 use Rattle.marking_io.specs.Text.{linesBelow, IsText, mostLines}
 
 -- The first n bytes of a buffer are the lines of the indices below one; each has a line; at is the place of the next.
-pub record Begun (s out : List ℕ) (n index at : ℕ) : Type 0 where
+pub record Walked (s out : List ℕ) (n index at : ℕ) : Type 0 where
   pub bytes : Begins out n (linesBelow s index)
   pub place : at ≡ placeOf s index
   pub each : (i : ℕ) → i < index → 0 < length (markLine s i)
@@ -32,9 +32,9 @@ module _ (s : List ℕ) where
   unfolding linesBelow
   lines-more k = ap (λ m. joinBelow m (markLine s)) (add-one k)
 
-  pub begun : (out : List ℕ) → Begun s out 0 0 0
+  pub walked-none : (out : List ℕ) → Walked s out 0 0 0
   unfolding placeOf
-  begun out = record {
+  walked-none out = record {
     bytes = begins-as (sym lines-none) (begins-none out);
     place = refl;
     each = λ i h. absurd (omega arith);
@@ -43,13 +43,13 @@ module _ (s : List ℕ) where
   }
 
   -- The line of the next index has been put behind them: n bytes before, r after.
-  module _ (before out : List ℕ) (n r index at : ℕ) (b : Begun s before n index at) (p : Begins out r (take n before ++ markLine s index)) (count : r ≡ n + length (markLine s index)) where
+  module _ (before out : List ℕ) (n r index at : ℕ) (b : Walked s before n index at) (p : Begins out r (take n before ++ markLine s index)) (count : r ≡ n + length (markLine s index)) where
     abbrev line : List ℕ
     line = markLine s index
 
     -- One line more, and the next.
     module _ (some : 0 < length line) (most : r ≤ n + longest) where
-      pub below : index < mostLines
+      below : index < mostLines
       below = line-index s index some
 
       each-more : (i : ℕ) → i < index + 1 → 0 < length (markLine s i)
@@ -59,9 +59,9 @@ module _ (s : List ℕ) where
           go (yes q) = b .each i q
           go (no q) = let last : index ≡ i = omega arith in subst (λ j. 0 < length (markLine s j)) last some
 
-      pub begun-more : (next : ℕ) → next ≡ pastOf s index at → Begun s out r (index + 1) next
+      pub walked-more : (next : ℕ) → next ≡ pastOf s index at → Walked s out r (index + 1) next
       unfolding placeOf
-      begun-more next e = record {
+      walked-more next e = record {
         bytes = begins-as (ap (λ x. x ++ line) (b .bytes .bytes) ∙ sym (lines-more index)) p;
         place = e ∙ ap (pastOf s index) (b .place) ∙ sym (ap (placeOf s) (add-one index));
         each = each-more;

@@ -1,7 +1,8 @@
 // The marking program's part that reads a script and prints its text. No contract can say what is read or written. What is proved: the
-// bytes handed to write calls, joined, are the text of the bytes that were read, and a program that ends without a word on standard error
-// has handed over all of them. Outside stand the calls themselves: that a read call leaves the input's next bytes where it is told to, and
-// that a write call puts out as many bytes as it says.
+// buffer that is read into shows a script that is too long; what is to be printed is the text of the bytes that were read, no byte more or
+// less; each write call is handed all of it that is left; and printing ends without a failure only where none is left. Outside stand the
+// calls: that a read call puts the input's next bytes into what it is lent, and that a write call takes as many bytes as it says. That the
+// counts of the calls are added up, and that a failure is told, is read off `read_script`, `print`, `mark_into` and `mark_from`.
 ghost use mathlib.Core.Path.{_≡_};
 ghost use mathlib.Core.List.{_++_};
 ghost use Prim.Native.Nat.{_+_, _≤_};
@@ -19,7 +20,7 @@ use record::Written;
 // A script has at most 65,536 bytes. One byte more is read, and marking then says that the script is too long.
 const READ: usize = 65537;
 
-// The bytes of a text: at most 4,370 lines of at most 160, and room for one line more.
+// The bytes of the buffer for the text: at most 4,370 lines of at most 160 bytes, and room for one line more.
 const TEXT: usize = 699360;
 
 // How often a call is made that signals interrupt: every function ends, and no run uses this up.
@@ -103,7 +104,8 @@ fn read_some(descriptor: i32, rest: &mut [u8]) -> Call
     Call::Broken
 }
 
-// Reads until the buffer is full, the input ends or a call fails. The buffer shows a script that is too long by its last byte.
+// Reads until the buffer is full, the input ends or a call fails. A buffer of one byte more than a script may have is asked for, so that a
+// script that is too long is seen to be so.
 fn read_script(descriptor: i32, buffer: &mut [u8]) -> Input
     requires { ⌜ length (now buffer) ≡ readBytes ⌝ }
     ensures { λ r. ⌜ Filled r (length (now (buffer .entry))) ⌝ }

@@ -7,12 +7,12 @@ use denote.Ref.{now}
 use lib.ListN.{length}
 use Rattle.marking.proofs.Bound.{line-index}
 use Rattle.marking_io.specs.Text.{mostLines}
-use Rattle.marking_io.proofs.Lines.{Begun, begun, begun-more, all-lines}
+use Rattle.marking_io.proofs.Lines.{Walked, walked-none, walked-more, all-lines}
 use Rattle.marking_io.proofs.fill.Statement.{statement}
 use Rattle.marking_io.proofs.fill.Tie as tie
 
 abbrev Inv-loop : tie.InvT-loop
-Inv-loop script out₀ n₀ index₀ at₀ out n index at = (length out ≡ length out₀) × Begun script out n index at
+Inv-loop script out₀ n₀ index₀ at₀ out n index at = (length out ≡ length out₀) × Walked script out n index at
 
 abbrev μ-loop : tie.MeasureT-loop
 μ-loop script out₀ n₀ index₀ at₀ out n index at = mostLines - index
@@ -25,7 +25,7 @@ index-below c =
     line-index (now (l .before .before .before .args .script)) (l .loop .index) (omega (arith, put .ensures .0 .0, c .if1 .left))
 
 loop-holds : tie.Need-loop-holds Inv-loop μ-loop
-loop-holds c = (refl, begun (now (c .before .before .args .script)) (now (c .before .before .args .out)))
+loop-holds c = (refl, walked-none (now (c .before .before .args .script)) (now (c .before .before .args .out)))
 
 put-line-requires : tie.Need-put-line-requires Inv-loop μ-loop
 put-line-requires c κs =
@@ -67,7 +67,7 @@ loop-again c =
     let l = c .before .before .before .before .before .before in
     let put = c .before .before .before .before .put-line in (
       put .kept .1 .1 .1 .0 ∙ l .loop .inv .0,
-      begun-more
+      walked-more
           (now (l .before .before .before .args .script))
           (l .loop .out)
           (put .last .1 .1 .1 .0)

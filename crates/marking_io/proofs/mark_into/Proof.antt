@@ -1,21 +1,26 @@
 -- `mark_into`: what is printed is the text that the buffer then has, of the bytes that were read.
-use mathlib.Core.Path.{sym}
+use native.Mathlib.Omega.{arith}
+use denote.Ref.{now}
 use lib.Seq.{length-take-le}
 use borrow.Author.Needs.{needs}
 use Rattle.marking_io.proofs.mark_into.Statement.{statement}
 use Rattle.marking_io.proofs.mark_into.Tie as tie
 
 slice-aggregate-fill : tie.Need-slice-aggregate-fill
-slice-aggregate-fill c = sym (length-take-le _ _ (c .before .before .before .pre .1))
+slice-aggregate-fill c =
+    let s = c .before .before .before in
+    omega (arith, length-take-le (s .args .n) (now (s .args .input)) (s .pre .1))
 
 fill-requires : tie.Need-fill-requires
 fill-requires c κs = search needs
 
 slice-reshare-prefix-print : tie.Need-slice-reshare-prefix-print
-slice-reshare-prefix-print c = c .before .before .fill .ensures .0
+slice-reshare-prefix-print c = omega (arith, c .before .before .fill .ensures .0)
 
 slice-aggregate-print : tie.Need-slice-aggregate-print
-slice-aggregate-print c = sym (length-take-le _ _ (c .before .before .before .fill .ensures .0))
+slice-aggregate-print c =
+    let made = c .before .before .before .fill in
+    omega (arith, length-take-le (made .result) (made .last .1 .0) (made .ensures .0))
 
 print-requires : tie.Need-print-requires
 print-requires c κs = c .before .before .before .fill .ensures .1

@@ -1,14 +1,12 @@
--- `mark_read`: the length of its buffer, by a law, since the buffer is too long to be counted.
-use mathlib.Core.Path.{_≡_, sym, subst}
+-- `mark_read`: its buffer has room for every text.
+use mathlib.Core.Path.{subst}
 use Prim.Native.Nat.{ℕ, _≤_}
 use native.Mathlib.Omega.{arith}
-use lib.ListN.{length, replicate, length-replicate}
+use lib.ListN.{length, replicate}
 use Rattle.marking_io.specs.Text.{textRoom}
+use Rattle.marking_io.proofs.Calls.{zeros}
 use Rattle.marking_io.proofs.mark_read.Statement.{statement}
 use Rattle.marking_io.proofs.mark_read.Tie as tie
-
-zeros : (n : ℕ) → n ≡ length {A = ℕ} (replicate n 0)
-zeros n = sym (length-replicate n 0)
 
 room : (n : ℕ) → textRoom ≤ n → textRoom ≤ length {A = ℕ} (replicate n 0)
 room n h = subst (λ m. textRoom ≤ m) (zeros n) h

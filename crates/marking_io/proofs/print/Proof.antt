@@ -1,6 +1,7 @@
 -- `print`: done counts what all calls so far took, and each is handed the text from there on. The measure is the number of bytes left.
 use mathlib.Core.Path.{ap}
-use Prim.Native.Nat.{_+_, _-_, _≤_}
+use mathlib.Core.List.{List}
+use Prim.Native.Nat.{ℕ, _+_, _-_, _≤_}
 use native.Mathlib.Omega.{arith}
 use denote.Ref.{now}
 use lib.ListN.{length, take, drop, length-drop}
@@ -17,13 +18,21 @@ abbrev μ-loop : tie.MeasureT-loop
 μ-loop input n text done₀ done = length text - done
 
 -- What a call took was left.
-moved : (c : tie.After-count Inv-loop μ-loop) → c .before .before .before .before .before .loop .done + c .count .given .0 .0 ≤ length (now (c .before .before .before .before .before .before .before .before .args .text))
-moved c =
-    let l = c .before .before .before .before .before in
-    let call = c .before .before .write-some in
-    let text = now (l .before .before .before .args .text) in
-    let k = moved-within (call .result) (c .count .given .0 .0) (length (take (length text - l .loop .done) (drop (l .loop .done) text))) (c .count .given .1) (call .ensures) in
-    omega (arith, k, l .loop .inv, ap length (part-to-end text (l .loop .done)), length-drop (l .loop .done) text)
+module _ (c : tie.After-count Inv-loop μ-loop) where
+  abbrev turn : tie.At-loop Inv-loop μ-loop
+  turn = c .before .before .before .before .before
+
+  abbrev text : List ℕ
+  text = now (turn .before .before .before .args .text)
+
+  abbrev done : ℕ
+  done = turn .loop .done
+
+  moved : done + c .count .given .0 .0 ≤ length text
+  moved =
+      let call = c .before .before .write-some in
+      let k = moved-within (call .result) (c .count .given .0 .0) (length (take (length text - done) (drop done text))) (c .count .given .1) (call .ensures) in
+      omega (arith, k, turn .loop .inv, ap length (part-to-end text done), length-drop done text)
 
 loop-holds : tie.Need-loop-holds Inv-loop μ-loop
 loop-holds c = omega arith
@@ -53,7 +62,7 @@ returns-2 : tie.Need-returns-2 Inv-loop μ-loop
 returns-2 c = tt
 
 add-done : tie.Need-add-done Inv-loop μ-loop
-add-done c = omega (arith, moved (c .before .before), c .before .before .before .before .before .before .before .before .before .before .good)
+add-done c = omega (arith, moved (c .before .before), turn (c .before .before) .before .before .before .good)
 
 loop-less : tie.Need-loop-less Inv-loop μ-loop
 loop-less c = omega (arith, moved (c .before .before), c .if1 .left)

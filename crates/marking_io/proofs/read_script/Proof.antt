@@ -1,6 +1,7 @@
 -- `read_script`: n counts what all calls so far moved, and is within the buffer. The measure is the number of bytes that have room.
 use mathlib.Core.Path.{_≡_, refl, _∙_}
-use Prim.Native.Nat.{_+_, _-_, _≤_}
+use mathlib.Core.List.{List}
+use Prim.Native.Nat.{ℕ, _+_, _-_, _≤_}
 use native.Mathlib.Omega.{arith}
 use lib.ListN.{length}
 use borrow.Rule.Slice.PartMut.{midOf, putMid, mid-len, same-len-mid}
@@ -15,20 +16,32 @@ Inv-loop descriptor buffer₀ n₀ buffer n = (length buffer ≡ length buffer�
 abbrev μ-loop : tie.MeasureT-loop
 μ-loop descriptor buffer₀ n₀ buffer n = length buffer - n
 
--- What a call moved has room.
-moved : (c : tie.After-count Inv-loop μ-loop) → c .before .before .before .before .before .before .before .loop .n + c .count .given .0 .0 ≤ length (c .before .before .before .before .before .before .before .loop .buffer)
-moved c =
-    let l = c .before .before .before .before .before .before .before .loop in
-    let call = c .before .before .before .before .read-some in
-    let k = moved-within (call .result) (c .count .given .0 .0) (length (midOf (l .n) (length (l .buffer) - l .n) (l .buffer))) (c .count .given .1) (call .ensures) in
-    omega (arith, k, l .inv .1, mid-len (l .n) (length (l .buffer)) (l .buffer) (omega arith))
+-- A call that moved bytes.
+module _ (c : tie.After-count Inv-loop μ-loop) where
+  abbrev turn : tie.At-loop Inv-loop μ-loop
+  turn = c .before .before .before .before .before .before .before
 
--- It left the buffer's length.
-kept : (c : tie.After-count Inv-loop μ-loop) → length (putMid (c .before .before .before .before .before .before .before .loop .n) (length (c .before .before .before .before .before .before .before .loop .buffer) - c .before .before .before .before .before .before .before .loop .n) (c .before .before .before .before .before .before .before .loop .buffer) (c .before .before .before .before .read-some .last .1 .0)) ≡ length (c .before .before .before .before .before .before .before .loop .buffer)
-kept c =
-    let l = c .before .before .before .before .before .before .before .loop in
-    let call = c .before .before .before .before .read-some in
-    same-len-mid (l .n) (length (l .buffer) - l .n) (l .buffer) (call .last .1 .0) (call .kept .1 .0)
+  abbrev n : ℕ
+  n = turn .loop .n
+
+  abbrev buffer : List ℕ
+  buffer = turn .loop .buffer
+
+  -- What it moved has room.
+  moved : n + c .count .given .0 .0 ≤ length buffer
+  moved =
+      let call = c .before .before .before .before .read-some in
+      let k = moved-within (call .result) (c .count .given .0 .0) (length (midOf n (length buffer - n) buffer)) (c .count .given .1) (call .ensures) in
+      omega (arith, k, turn .loop .inv .1, mid-len n (length buffer) buffer (omega arith))
+
+  -- It left the buffer's length.
+  kept : length (putMid n (length buffer - n) buffer (c .before .before .before .before .read-some .last .1 .0)) ≡ length buffer
+  kept =
+      let call = c .before .before .before .before .read-some in
+      same-len-mid n (length buffer - n) buffer (call .last .1 .0) (call .kept .1 .0)
+
+  same : length (putMid n (length buffer - n) buffer (c .before .before .before .before .read-some .last .1 .0)) ≡ length (turn .before .before .args .buffer .now)
+  same = kept ∙ turn .loop .inv .0
 
 loop-holds : tie.Need-loop-holds Inv-loop μ-loop
 loop-holds c = (refl, omega arith)
@@ -61,25 +74,19 @@ returns : tie.Need-returns Inv-loop μ-loop
 returns c = tt
 
 same-length-2 : tie.Need-same-length-2 Inv-loop μ-loop
-same-length-2 c = kept (c .before .before) ∙ c .before .before .before .before .before .before .before .before .before .loop .inv .0
+same-length-2 c = same (c .before .before)
 
 returns-2 : tie.Need-returns-2 Inv-loop μ-loop
-returns-2 c = let l = c .before .before .before .before .before .before .before .before .before .loop in omega (arith, l .inv .0, l .inv .1)
+returns-2 c = let t = turn (c .before .before) in omega (arith, t .loop .inv .0, t .loop .inv .1)
 
 add-n : tie.Need-add-n Inv-loop μ-loop
-add-n c =
-    let l = c .before .before .before .before .before .before .before .before .before in
-    omega (arith, moved (c .before .before), l .loop .inv .0, l .before .before .pre)
+add-n c = let t = turn (c .before .before) in omega (arith, moved (c .before .before), t .loop .inv .0, t .before .before .pre)
 
 loop-less : tie.Need-loop-less Inv-loop μ-loop
-loop-less c =
-    let same = kept (c .before .before) in
-    omega (arith, same, moved (c .before .before), c .if1 .left)
+loop-less c = let e = kept (c .before .before) in omega (arith, e, moved (c .before .before), c .if1 .left)
 
 loop-again : tie.Need-loop-again Inv-loop μ-loop
-loop-again c =
-    let same = kept (c .before .before) in
-    (same ∙ c .before .before .before .before .before .before .before .before .before .loop .inv .0, omega (arith, same, moved (c .before .before)))
+loop-again c = let e = kept (c .before .before) in (same (c .before .before), omega (arith, e, moved (c .before .before)))
 
 same-length-3 : tie.Need-same-length-3 Inv-loop μ-loop
 same-length-3 c = c .before .loop .inv .0
