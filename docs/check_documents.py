@@ -2,7 +2,8 @@
 """Holds the documents against the tree: commands run and print what stands under them, links and files that are named exist.
 
 In a block headed ```console a line `$ COMMAND` is run in the repository's root by a shell, and what it prints on standard output must be the
-lines under it, where there are any. The gate's own command is not run, since it runs this, nor is the one that makes the archive, which the gate has
+lines under it, where there are any. The first block headed ```sh of MARKING.md is run on hand-ins that are made for it, and must print the block
+headed ```text after it. The gate's own command is not run, since it runs this, nor is the one that makes the archive, which the gate has
 just done; a command that only builds is run once. A link [..](PATH) and a path crate/specs/File in
 backquotes must name a file or folder. Ends with status 1 if anything is not as said.
 """
@@ -10,6 +11,7 @@ import pathlib
 import re
 import subprocess
 import sys
+import tempfile
 
 ROOT = pathlib.Path(__file__).resolve().parent.parent
 DOCUMENTS = ["README.md", "host/README.md", "tests/README.md", "bench/README.md"] + [f"docs/{name}.md" for name in ("CLAIMS", "DECISIONS", "DESIGN", "MARKING", "PROVING", "TRUST")]
@@ -38,6 +40,30 @@ def try_command(command, printed, built):
     return None
 
 
+def hand_ins():
+    """A key and the hand-ins that MARKING.md speaks of, by name: from the records of the example."""
+    script = (ROOT / "examples/three.script").read_bytes()
+    starts = [found.start() for found in re.finditer(b"NXA", script)] + [len(script)]
+    key, same, other = (script[a:b] for a, b in zip(starts, starts[1:]))
+    return {"key": key, "answers/anna": same, "answers/ben": other, "answers/carl": b"", "answers/dora": same + other, "answers/emil": same[:-8]}
+
+
+def try_loop(text):
+    """What is wrong with the loop that marks each hand-in by itself, or nothing."""
+    loop, printed = (re.search(rf"^```{head}\n(.*?)^```$", text, re.M | re.S).group(1) for head in ("sh", "text"))
+    with tempfile.TemporaryDirectory() as folder:
+        desk = pathlib.Path(folder)
+        (desk / "answers/fred").mkdir(parents=True)
+        for name, content in hand_ins().items():
+            (desk / name).write_bytes(content)
+        (desk / "mark").write_text(f"#!/bin/sh\nexec '{ROOT}/mark'\n", encoding="utf-8")
+        (desk / "mark").chmod(0o755)
+        done = subprocess.run(["sh", "-c", loop], cwd=desk, stdin=subprocess.DEVNULL, capture_output=True, text=True, check=False)
+    if done.returncode != 0 or done.stdout != printed:
+        return f"ended with status {done.returncode}, printed\n{done.stdout}{done.stderr}where the document has\n{printed}"
+    return None
+
+
 def places(document, text):
     """What links and backquotes name: files and folders."""
     for link in re.findall(r"\]\(([^)#:]+)\)", text):
@@ -49,8 +75,13 @@ def places(document, text):
 
 
 def main():
-    wrong = commands = named = 0
+    wrong = named = 0
+    commands = 1
     built = set()
+    problem = try_loop((ROOT / "docs/MARKING.md").read_text(encoding="utf-8"))
+    if problem:
+        print(f"docs/MARKING.md: the loop: {problem}")
+        wrong += 1
     for name in DOCUMENTS:
         document = ROOT / name
         text = document.read_text(encoding="utf-8")

@@ -11,7 +11,7 @@ fn mark_file(index: usize) {
     }
     io::write_all(STDOUT_FILENO, &path[..n]);
     io::write_all(STDOUT_FILENO, b":\n");
-    marking_io::mark_from(descriptor);
+    marking_io::mark_from(descriptor, &path[..n]);
     libc::close(descriptor);
 }
 

@@ -1,4 +1,4 @@
--- A line put behind the first n bytes of a page, through the part of the page from there on: it has room, so it is written, and no byte
+-- A line put behind the first n bytes of a buffer, through the part of the buffer from there on: it has room, so it is written, and no byte
 -- before it changes.
 use mathlib.Core.Path.{_≡_, refl, sym, ap, _∙_}
 use mathlib.Core.List.{List, _++_, append-assoc}
@@ -23,20 +23,20 @@ front xs line rest post r e =
       bytes = ap (take r) same ∙ take-at (xs ++ line) (rest ++ post) r count;
     }
 
--- The part of a page from n on.
+-- The part of a buffer from n on.
 abbrev pub partFrom : List ℕ → ℕ → List ℕ
-partFrom page n = midOf n (length page - n) page
+partFrom out n = midOf n (length out - n) out
 
-module _ (page line : List ℕ) (n : ℕ) (room : n + length line ≤ length page) where
-  fits : fit (length (partFrom page n)) line ≡ wrote line
-  fits = fit-done (length (partFrom page n)) line refl (rw (mid-len n (length page) page (omega arith)) (omega arith))
+module _ (out line : List ℕ) (n : ℕ) (room : n + length line ≤ length out) where
+  fits : fit (length (partFrom out n)) line ≡ wrote line
+  fits = fit-done (length (partFrom out n)) line refl (rw (mid-len n (length out) out (omega arith)) (omega arith))
 
-  pub granted : (w : Written) → w ≡ answerOf (fit (length (partFrom page n)) line) → w ≡ Done (length line)
+  pub granted : (w : Written) → w ≡ answerOf (fit (length (partFrom out n)) line) → w ≡ Done (length line)
   granted w e = e ∙ ap answerOf fits
 
-  pub behind : (back : List ℕ) (r : ℕ) → back ≡ bufferOf (fit (length (partFrom page n)) line) (partFrom page n) → r ≡ n + length line
-      → Begins (putMid n (length page - n) page back) r (take n page ++ line)
+  pub behind : (back : List ℕ) (r : ℕ) → back ≡ bufferOf (fit (length (partFrom out n)) line) (partFrom out n) → r ≡ n + length line
+      → Begins (putMid n (length out - n) out back) r (take n out ++ line)
   behind back r e count =
       rw (e, fits)
-      (front (take n page) line (drop (length line) (partFrom page n)) (postOf n (length page - n) page) r
-      (ap (λ k. k + length line) (length-take-le n page (omega arith)) ∙ sym count))
+      (front (take n out) line (drop (length line) (partFrom out n)) (postOf n (length out - n) out) r
+      (ap (λ k. k + length line) (length-take-le n out (omega arith)) ∙ sym count))

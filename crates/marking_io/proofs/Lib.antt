@@ -1,3 +1,4 @@
 -- Laws that belong to no one function.
 pub mod Behind
-pub mod Pages
+pub mod Lines
+pub mod Calls

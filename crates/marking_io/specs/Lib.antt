@@ -1,2 +1,3 @@
--- What a reader must believe: Pages.
-pub mod Pages
+-- What a reader must believe: Text, Calls.
+pub mod Text
+pub mod Calls

@@ -1,100 +1,88 @@
--- `fill`: the page's bytes are the lines from the index on, each time one more. The measure is the number of indices left that can have a line.
-use mathlib.Core.Path.{_≡_, refl, sym, ap, _∙_}
-use Prim.Native.Nat.{_-_, _<_}
+-- `fill`: each turn puts one line more behind those that stand, and the first index without one ends the text. The measure is the number
+-- of indices left that can have a line.
+use mathlib.Core.Path.{_≡_, refl, _∙_}
+use Prim.Native.Nat.{_+_, _-_, _<_}
 use native.Mathlib.Omega.{arith}
-use native.Mathlib.Numerals.{add-one}
 use denote.Ref.{now}
 use lib.ListN.{length}
-use Rattle.walk.specs.Walk.{pastOf, placeOf}
-use Rattle.lines.proofs.Building.{begins-as, begins-none}
-use Rattle.marking.specs.Marking.{markLine}
 use Rattle.marking.proofs.Bound.{line-index}
-use Rattle.marking_io.specs.Pages.{mostLines, Page}
-use Rattle.marking_io.proofs.Pages.{lines-none, page-more, page-same}
+use Rattle.marking_io.specs.Text.{mostLines}
+use Rattle.marking_io.proofs.Lines.{Walked, walked-none, walked-more, all-lines}
 use Rattle.marking_io.proofs.fill.Statement.{statement}
 use Rattle.marking_io.proofs.fill.Tie as tie
 
 abbrev Inv-loop : tie.InvT-loop
-Inv-loop script index at page₀ n₀ next₀ place₀ page n next place = (length page ≡ length page₀) × Page script index page n next place
+Inv-loop script out₀ n₀ index₀ at₀ out n index at = (length out ≡ length out₀) × Walked script out n index at
 
 abbrev μ-loop : tie.MeasureT-loop
-μ-loop script index at page₀ n₀ next₀ place₀ page n next place = mostLines - next
+μ-loop script out₀ n₀ index₀ at₀ out n index at = mostLines - index
 
--- Only an index below 4,370 has a line.
-below : (c : tie.Else1 Inv-loop μ-loop) → c .before .before .before .before .before .before .loop .next < mostLines
-below c =
-    let l = c .before .before .before .before .before .before in
+-- The index has a line, so it is below 4,370.
+index-below : (c : tie.Else1 Inv-loop μ-loop) → c .before .before .before .before .before .loop .index < mostLines
+index-below c =
+    let l = c .before .before .before .before .before in
     let put = c .before .before .before .put-line in
-    line-index (now (l .before .before .before .args .script)) (l .loop .next) (omega (arith, put .ensures .0, c .if1 .left))
+    line-index (now (l .before .before .before .args .script)) (l .loop .index) (omega (arith, put .ensures .0 .0, c .if1 .left))
 
 loop-holds : tie.Need-loop-holds Inv-loop μ-loop
-loop-holds c =
-    let s = c .before .before in
-    let a = s .args in (
-      refl,
-      record {
-        begins = begins-as (sym (lines-none (now (a .script)) (a .index))) (begins-none (now (a .page)));
-        place = s .pre .0;
-        onward = omega arith;
-        most = s .pre .1;
-      },
-    )
+loop-holds c = (refl, walked-none (now (c .before .before .args .script)) (now (c .before .before .args .out)))
 
 put-line-requires : tie.Need-put-line-requires Inv-loop μ-loop
 put-line-requires c κs =
-    let l = c .before .before in
-    (l .loop .inv .1 .place, omega (arith, l .loop .inv .0, l .before .before .before .pre .2, c .before .loop-test .taken))
+    let l = c .before in
+    let b = l .loop .inv .1 in
+    (b .place, omega (arith, l .loop .inv .0, l .before .before .before .pre, b .short, b .most))
 
 same-length : tie.Need-same-length Inv-loop μ-loop
-same-length c = c .before .before .before .put-line .kept .1 .1 .1 .0 ∙ c .before .before .before .before .before .before .loop .inv .0
+same-length c = c .before .before .before .put-line .kept .1 .1 .1 .0 ∙ c .before .before .before .before .before .loop .inv .0
 
 returns : tie.Need-returns Inv-loop μ-loop
 returns c =
-    let l = c .before .before .before .before .before .before in
-    let a = l .before .before .before .args in
+    let l = c .before .before .before .before .before in
     let put = c .before .before .before .put-line in
-    let inv = l .loop .inv .1 in
-    let none : length (markLine (now (a .script)) (l .loop .next)) ≡ 0 = omega (arith, put .ensures .0, c .if1 .taken) in (
-      record {
-        begins = page-same (now (a .script)) (a .index) (l .loop .page) (put .last .1 .1 .1 .0) (l .loop .n) (put .result) (l .loop .next) (inv .begins) (put .ensures .1) none (c .if1 .taken);
-        place = inv .place;
-        onward = inv .onward;
-        most = inv .most;
-      },
-      λ h. none,
-    )
+    all-lines
+    (now (l .before .before .before .args .script))
+    (l .loop .out)
+    (put .last .1 .1 .1 .0)
+    (l .loop .n)
+    (put .result)
+    (l .loop .index)
+    (l .loop .at)
+    (l .loop .inv .1)
+    (put .ensures .1)
+    (put .ensures .0 .0)
+    (c .if1 .taken)
 
 past-requires : tie.Need-past-requires Inv-loop μ-loop
 past-requires c κs = tt
 
-add-next : tie.Need-add-next Inv-loop μ-loop
-add-next c = let h = below (c .before) in omega (arith, h)
+add-index : tie.Need-add-index Inv-loop μ-loop
+add-index c = let h = index-below (c .before) in omega (arith, h)
 
 loop-less : tie.Need-loop-less Inv-loop μ-loop
-loop-less c = let h = below (c .before) in omega (arith, h)
+loop-less c = let h = index-below (c .before) in omega (arith, h)
 
 loop-again : tie.Need-loop-again Inv-loop μ-loop
-unfolding placeOf
 loop-again c =
-    let l = c .before .before .before .before .before .before .before in
-    let a = l .before .before .before .args in
-    let put = c .before .before .before .before .put-line in
-    let inv = l .loop .inv .1 in
-    let s = now (a .script) in (
+    let l = c .before .before .before .before .before .before in
+    let put = c .before .before .before .before .put-line in (
       put .kept .1 .1 .1 .0 ∙ l .loop .inv .0,
-      record {
-        begins = page-more s (a .index) (l .loop .page) (put .last .1 .1 .1 .0) (l .loop .n) (put .result) (l .loop .next) (inv .begins) (put .ensures .1) (inv .onward);
-        place = c .past .ensures ∙ ap (pastOf s (l .loop .next)) (inv .place) ∙ sym (ap (placeOf s) (add-one (l .loop .next)));
-        onward = omega (arith, inv .onward);
-        most = omega (arith, below (c .before));
-      },
+      walked-more
+          (now (l .before .before .before .args .script))
+          (l .loop .out)
+          (put .last .1 .1 .1 .0)
+          (l .loop .n)
+          (put .result)
+          (l .loop .index)
+          (l .loop .at)
+          (l .loop .inv .1)
+          (put .ensures .1)
+          (put .ensures .0 .0)
+          (omega (arith, put .ensures .0 .0, c .before .if1 .left))
+          (put .ensures .0 .1)
+          (c .past .result)
+          (c .past .ensures),
     )
-
-same-length-2 : tie.Need-same-length-2 Inv-loop μ-loop
-same-length-2 c = c .before .loop .inv .0
-
-returns-2 : tie.Need-returns-2 Inv-loop μ-loop
-returns-2 c = (c .before .loop .inv .1, λ h. absurd (omega (arith, c .loop-test .left)))
 
 pub fill-spec : {M : Type 1} → statement M
 fill-spec =
@@ -107,8 +95,6 @@ fill-spec =
     same-length
     returns
     past-requires
-    add-next
+    add-index
     loop-less
-    loop-again
-    same-length-2
-    returns-2)
+    loop-again)

@@ -1,4 +1,4 @@
--- `put_line`: every line has room in the page, so it is written, behind the bytes that were there.
+-- `put_line`: every line has room in the buffer, so it is written, behind the bytes that were there.
 use mathlib.Core.Path.{_≡_, ap}
 use mathlib.Core.List.{List}
 use Prim.Native.Nat.{ℕ, _+_, _≤_}
@@ -6,6 +6,7 @@ use native.Mathlib.Omega.{arith}
 use denote.Ref.{now}
 use lib.ListN.{length}
 use Rattle.record.specs.declared.Written.the-variants.{Done}
+use Rattle.lines.specs.Lines.{longest}
 use Rattle.marking.specs.Marking.{lineAt, markLine}
 use Rattle.marking_io.proofs.Behind.{granted, behind}
 use borrow.Author.Needs.{needs}
@@ -24,11 +25,14 @@ module _ (c : tie.After-line-at) where
   abbrev start : tie.Start
   start = c .before .before .before .before
 
-  room : start .args .n + length (line start) ≤ length (now (start .args .page))
-  room = let short = rw (line-is start) at (c .line-at .ensures .1 .1) in omega (arith, short, start .pre .1)
+  short : length (line start) ≤ longest
+  short = rw (line-is start) at (c .line-at .ensures .1 .1)
+
+  room : start .args .n + length (line start) ≤ length (now (start .args .out))
+  room = omega (arith, short, start .pre .1)
 
   answer : c .line-at .result ≡ Done (length (line start))
-  answer = granted (now (start .args .page)) (line start) (start .args .n) room (c .line-at .result) (rw (line-is start) at (c .line-at .ensures .0))
+  answer = granted (now (start .args .out)) (line start) (start .args .n) room (c .line-at .result) (rw (line-is start) at (c .line-at .ensures .0))
 
 -- How many bytes it wrote.
 count : (c : tie.After-length) → c .length .given .0 .0 ≡ length (line (start (c .before .before .before .before)))
@@ -80,7 +84,7 @@ returns-2 c =
     let s = start l in
     let a = s .args in
     let total : a .n + c .before .length .given .0 .0 ≡ a .n + length (line s) = ap (λ k. a .n + k) (count (c .before)) in
-    (total, behind (now (a .page)) (line s) (a .n) (room l) _ _ (rw (line-is s) at (l .line-at .ensures .1 .0)) total)
+    ((total, omega (arith, total, short l)), behind (now (a .out)) (line s) (a .n) (room l) _ _ (rw (line-is s) at (l .line-at .ensures .1 .0)) total)
 
 pub put-line-spec : {M : Type 1} → statement M
 put-line-spec =
