@@ -1,6 +1,6 @@
 -- What the calls that read and write have done. Which bytes came, and where those handed over went, no contract can say.
 --   Within c n    one call that was lent n bytes moved no more than these
---   Filled i n    an input that ended gave at most n bytes; one that may go on gave all n
+--   Received i n  an input that ended gave at most n bytes; one that may go on gave all n
 --   Sent p n      what was printed, if it did not fail, is all of n bytes
 use mathlib.Core.Path.{_≡_}
 use Prim.Native.Nat.{ℕ, _≤_}
@@ -15,10 +15,10 @@ abbrev pub Within : Call → ℕ → Type 0
 Within (Moved k) n = k ≤ n
 Within Broken n = Unit {0}
 
-abbrev pub Filled : Input → ℕ → Type 0
-Filled (Ended k) n = k ≤ n
-Filled (Full k) n = k ≡ n
-Filled Unread n = Unit {0}
+abbrev pub Received : Input → ℕ → Type 0
+Received (Ended k) n = k ≤ n
+Received (Full k) n = k ≡ n
+Received Unread n = Unit {0}
 
 abbrev pub Sent : Printed → ℕ → Type 0
 Sent (All k) n = k ≡ n

@@ -11,7 +11,7 @@ ghost use Rattle.walk.specs.Walk.{placeOf};
 ghost use Rattle.lines.specs.Lines.{longest, Begins};
 ghost use Rattle.marking.specs.Marking.{markLine};
 ghost use Rattle.marking_io.specs.Text.{IsText, readBytes, textRoom};
-ghost use Rattle.marking_io.specs.Calls.{Within, Filled, Sent};
+ghost use Rattle.marking_io.specs.Calls.{Within, Received, Sent};
 use libc::EINTR;
 use libc::STDIN_FILENO;
 use libc::STDOUT_FILENO;
@@ -108,7 +108,7 @@ fn read_some(descriptor: i32, rest: &mut [u8]) -> Call
 // script that is too long is seen to be so.
 fn read_script(descriptor: i32, buffer: &mut [u8]) -> Input
     requires { ⌜ length (now buffer) ≡ readBytes ⌝ }
-    ensures { λ r. ⌜ Filled r (length (now (buffer .entry))) ⌝ }
+    ensures { λ r. ⌜ Received r (length (now (buffer .entry))) ⌝ }
 {
     let mut n = 0;
     while n < buffer.len() {

@@ -4,7 +4,7 @@
 --   Advances r p r′         a reader r gives out the part p that stands where it is, and is then r′: past it, in the same script
 --   readTo s k              where the reader of a script stands after k calls: from the start on, past one record after another
 --   partOfIndex s k         what it gives out at its call of index k
---   isLast p left           whether a reader that has given out a part, of which `left` more are wanted, is asked no more
+--   isLast p left           whether a reader that has given out p is asked no more: none is left to ask for, or it stays where it is
 --   bytesAt s start next    the bytes of a record
 use mathlib.Core.Path.{_≡_}
 use mathlib.Core.Bool.{Bool, true, cond}

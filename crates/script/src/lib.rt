@@ -83,8 +83,7 @@ impl<'a> Script<'a> {
     }
 }
 
-// Whether a part is the last that is asked of a reader: as many more as are left are asked for after a whole record, and none after
-// a refusal or at the end, where the reader stays.
+// Whether a part is the last that a reader is asked for: none is left to ask for, or it is no whole record, so that the reader stays.
 fn last(part: Part, left: usize) -> bool
     ensures { λ r. ⌜ r ≡ isLast part left ⌝ }
 {

@@ -1,10 +1,8 @@
 -- `place`: the key where it stands, the script's end where the key stops the marking, else where the reader stands.
-use mathlib.Core.Path.{_≡_, refl, sym, ap, _∙_}
-use Prim.Native.Nat.{ℕ}
+use mathlib.Core.Path.{_≡_, sym, ap, _∙_}
 use native.Mathlib.Omega.{arith}
 use denote.Ref.{now}
-use Rattle.script.specs.declared.Part.{Part}
-use Rattle.walk.specs.Walk.{placeOf}
+use Rattle.walk.specs.Walk.{pastOf, placeOf}
 use Rattle.walk.proofs.Reader.{onward, key-only, key-passed, place-first, place-second, place-after}
 use borrow.Author.Needs.{needs}
 use Rattle.walk.proofs.place.Statement.{statement}
@@ -14,7 +12,8 @@ use Rattle.walk.proofs.place.Tie as tie
 read : (c : tie.After-part-of-index) → onward (now (c .before .before .before .before .before .args .script)) (c .part-of-index .result) ≡ placeOf (now (c .before .before .before .before .before .args .script)) (c .before .before .before .before .before .args .index)
 read c =
     let a = c .before .before .before .before .before .args in
-    let on = key-passed (now (a .script)) (λ e. c .before .if2 .left (c .before .before .past .ensures ∙ sym (place-second (now (a .script))) ∙ e)) in
+    let past : c .before .before .past .result ≡ pastOf (now (a .script)) 0 0 = c .before .before .past .ensures in
+    let on = key-passed (now (a .script)) (λ e. c .before .if2 .left (past ∙ sym (place-second (now (a .script))) ∙ e)) in
     place-after (now (a .script)) on (a .index) (omega arith) (c .part-of-index .result) (c .part-of-index .ensures)
 
 returns : tie.Need-returns
