@@ -1,5 +1,4 @@
 -- `mark_from`: what was read is within the buffer, whether the input ended or the buffer is full.
-use mathlib.Core.Path.{sym}
 use native.Mathlib.Omega.{arith}
 use borrow.Author.Needs.{needs}
 use Rattle.marking_io.proofs.Calls.{ended-within, full-within, zeros}
@@ -7,10 +6,10 @@ use Rattle.marking_io.proofs.mark_from.Statement.{statement}
 use Rattle.marking_io.proofs.mark_from.Tie as tie
 
 slice-aggregate-read-script : tie.Need-slice-aggregate-read-script
-slice-aggregate-read-script c = zeros 65537
+slice-aggregate-read-script c = zeros _
 
 read-script-requires : tie.Need-read-script-requires
-read-script-requires c κs = sym (zeros 65537)
+read-script-requires c κs = search needs
 
 enum-known-length : tie.Need-enum-known-length
 enum-known-length c = search needs

@@ -12,7 +12,7 @@ room : (n : ℕ) → textRoom ≤ n → textRoom ≤ length {A = ℕ} (replicate
 room n h = subst (λ m. textRoom ≤ m) (zeros n) h
 
 slice-aggregate-mark-into : tie.Need-slice-aggregate-mark-into
-slice-aggregate-mark-into c = zeros 699360
+slice-aggregate-mark-into c = zeros _
 
 mark-into-requires : tie.Need-mark-into-requires
 mark-into-requires c κs = (room 699360 (omega arith), c .before .before .pre)
