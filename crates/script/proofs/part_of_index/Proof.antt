@@ -1,4 +1,5 @@
--- `part_of_index`: a walk of its code, by hand, with a loop. A `Script` in a local is lent to `next` by `&mut` in each turn, for a lifetime made for the call within that of the slice, and comes back at its last value.
+-- `part_of_index`: a walk of its code, by hand, with a loop. A `Script` in a local is lent to `next` by `&mut` in each turn, for a
+-- lifetime made for the call within that of the slice, and comes back at its last value.
 -- All that the proof knows of `resume`, `next` and `last` is that each meets its contract.
 --     Standing     the loop's variant: the calls made, what is left, and the reader, which stands where the calls made have brought it
 --     At           the loop's invariant: the locals, the reader among them, and what the slice owns
@@ -287,7 +288,7 @@ module _ {M : Type 1} (𝓤 : URA M) (H : Heap 𝓤) (A : Atoms 𝓤) (W : Given
           move ! (3 ∷ []) $ split ! $ use1 W (‵ (flft κ ql) ⊛ ‵ (flft κ qr)) (W .lfts .lft-split κ q) $ split ! $
           move ! (5 ∷ 0 ∷ []) $ use2 W (‵ (flft (ν ∷ κ) ql) ⊛ raw (Rest 𝓤 H A W ν ql)) (within-token 𝓤 H A W ν κ ql) $ split ! $
           move ! (0 ∷ 2 ∷ 4 ∷ []) $ use3 W (raw (Advance 𝓤 H A mem run .pre (to-advance ν l₃ δ (i .reader)))) (goes-advance ν l₃ δ (i .reader)) $
-          -- [what `next` asks; the rest of ν's token; ⊤; the lender's part; what s owns; room for _8; …; _7; …; room for _6; …; room for _5; …; _4; …; …; _2; …; _1; …; room for _0; …]
+          -- [what `next` asks; the rest of ν's token; ⊤; the lender's part; what s owns; then the locals from _8 down, _3 lent]
           calls-at ! fm (Advance 𝓤 H A mem run) known-next (to-advance ν l₃ δ (i .reader)) (and-then ! (load ! (from ! (stop !)) (look ! 7 refl)) (no-more !)) (λ w.
           use1 W (later (some (λ (t : Part). ((‵ (flft (ν ∷ κ) ql) ⊛ ‵ (flft κ qr) ⊛ ‵ ftrue) ⊛ ‵ (P.the-row .own t (w ∷ []))) ⊛ raw (ensured 𝓤 H A advance.ended (advance.clauses 𝓤 H A mem run) (ν ∷ κ, (κ, tt)) (lent l₃ δ (i .reader), tt) tt t)))) (id⊢ 𝓤 _) $ await ! tt $ pick ! (λ t.
           split ! $ move ! (1 ∷ []) $ use1 W (some (λ (zs : Script × Unit {0}). ‵ (lasts advance.ended (ν ∷ κ, (κ, tt)) (lent l₃ δ (i .reader), tt) zs) ⊛ raw (fact 𝓤 (Advances (i .reader) t (zs .0))))) (id⊢ 𝓤 _) $ pick ! (λ zs.
@@ -301,7 +302,7 @@ module _ {M : Type 1} (𝓤 : URA M) (H : Heap 𝓤) (A : Atoms 𝓤) (W : Given
           use1 W (‵ (fat fullShare held l₃ 0 (T′.lowered (zs .0))) ⊛ ‵ (B (κ, tt) .own (zs .0) (T′.lowered (zs .0) ∷ []))) (lies-out (zs .0) l₃) $ split ! $
           move ! (2 ∷ 3 ∷ []) $ use2 W (‵ (flft κ q)) (W .lfts .lft-join κ q) $ move ! (0 ∷ 3 ∷ []) $ join ! $
           move ! (4 ∷ []) $ drop ! $ move ! (4 ∷ []) $ drop ! $ move ! (3 ∷ 2 ∷ 0 ∷ 4 ∷ 1 ∷ []) $
-          -- [the part; what the reader owns; the token; what s owns; _3; room for _8; …; _7; …; room for _6; …; _5; …; _4; …; …; _2; …; _1; …; room for _0; …]
+          -- [the part; what the reader owns; the token; what s owns; _3; then the other locals from _8 down]
           use1 W (‵ (P.the-row .own t (w ∷ [])) ⊛ ‵ (P.the-row .own t (w ∷ []))) (EL.copy P.the-type P′.the-copy 𝓤 H A W .twice t (w ∷ [])) $ split ! $
           use1 W (raw (Last 𝓤 H A mem run .pre (to-last (i .left) t w))) (goes-last (i .left) fits t w) $
           calls-at ! fm (Last 𝓤 H A mem run) known-last (to-last (i .left) t w) (and-then ! (load ! (from ! (stop !)) (look ! 12 refl)) (and-then ! (load ! (from ! (stop !)) (look ! 14 refl)) (no-more !))) (λ x.
@@ -309,7 +310,7 @@ module _ {M : Type 1} (𝓤 : URA M) (H : Heap 𝓤) (A : Atoms 𝓤) (W : Given
           split ! $ move ! (1 ∷ []) $ use1 W (raw (fact 𝓤 (b ≡ isLast t (i .left)))) (last-said (i .left) t b) $ heard ! (b ≡ isLast t (i .left)) (λ e. split ! $ drop ! $
           peeks ! bool (Is bool) (shows 𝓤 H A bool) b (x ∷ []) (λ is′.
           land ! (from ! (stop !)) (init ! 6 refl (bool-lawful 𝓤 H A W .typed b _ is′ .0)) $ drop ! $ rewrite ! 5 (λ (y : Val). ‵ (fat fullShare tyBool l₈ 0 y)) (ap only is′) refl $
-          -- [the part; what the reader owns; the token; what s owns; _3; _8; …; _7; …; room for _6; …; _5; …; _4; …; …; _2; …; _1; …; room for _0; …]
+          -- [the part; what the reader owns; the token; what s owns; _3; then the other locals from _8 down]
           first ! $ branches ! (load ! (from ! (stop !)) (look ! 5 refl))
           (λ none. assigns ! (of-opd ! (load ! (from ! (stop !)) (look ! 11 refl))) (from ! (stop !)) (init ! 20 refl (part-typed t w is)) $
           returns-within ! Post refl (look ! 20 refl) $ forget ! 4 refl $ forget ! 5 refl $ forget ! 7 refl $ forget ! 11 refl $ forget ! 13 refl $ forget ! 16 refl $ forget ! 18 refl $ forget ! 20 refl $
@@ -338,7 +339,7 @@ module _ {M : Type 1} (𝓤 : URA M) (H : Heap 𝓤) (A : Atoms 𝓤) (W : Given
         calls-at ! fm (Resume 𝓤 H A mem run) known-resume to-resume (and-then ! (load ! (from ! (stop !)) (look ! 16 refl)) (and-then ! (lit ! tt) (no-more !))) (λ u.
         use1 W (later (some (λ (r : Script). ((‵ (flft κ q) ⊛ ‵ ftrue) ⊛ ‵ (B (κ, tt) .own r (u ∷ []))) ⊛ raw (ensured 𝓤 H A resume.ended (resume.clauses 𝓤 H A mem run) (κ, tt) (s, (0, tt)) tt r)))) (id⊢ 𝓤 _) $ await ! tt $ pick ! (λ r.
         split ! $ move ! (1 ∷ []) $ use1 W (raw (fact 𝓤 ((r .bytes ≡ s) × (r .at ≡ 0)))) (resume-said r) $ heard ! ((r .bytes ≡ s) × (r .at ≡ 0)) (λ e. split ! $ move ! (1 ∷ []) $
-        -- [what the reader owns; the token; what s owns; room for _8; …; room for _7; …; room for _6; …; room for _5; …; room for _4; …; room for _3; …; _2; …; _1; …; room for _0; …]
+        -- [what the reader owns; the token; what s owns; then the locals from _8 down: room, but for _2 and _1]
         peeks ! (B (κ, tt)) (Is (B (κ, tt))) (shows 𝓤 H A (B (κ, tt))) r (u ∷ []) (λ is.
         land ! (from ! (stop !)) (init ! 7 refl (reader-typed r u is)) $
         assigns ! (of-opd ! (load ! (from ! (stop !)) (look ! 7 refl))) (from ! (stop !)) (init ! 13 refl (reader-typed r u is)) $
