@@ -1,4 +1,4 @@
--- How many lines there are: a record has at least 15 bytes, so an index that has a line is at most a fifteenth of the script's length.
+-- How many lines there are: a record has at least 15 bytes, so only an index below 4,370 has a line.
 use mathlib.Core.Path.{_≡_, refl, sym, ap, _∙_}
 use mathlib.Core.Bool.{Bool, true, false, cond}
 use mathlib.Core.List.{List, []}
@@ -42,19 +42,19 @@ place-far s (suc i) h =
     let p = past-far s i (placeOf s i) h in
     omega (arith, p, place-far s i (omega (arith, p, h)))
 
-pub line-index : (s : List ℕ) (index : ℕ) → 0 < length (markLine s index) → 15 * index ≤ length s
+pub line-index : (s : List ℕ) (index : ℕ) → 0 < length (markLine s index) → index < 4370
 unfolding markLine
-line-index s index some = go (decLt (length s) (15 * index))
+line-index s index some = go (decLt index 4370)
   where
-    none : (index ≡ 0 → ⊥) → length s < 15 * index → Dec (maxScript < length s) → Dec (placeOf s index < length s) → markLine s index ≡ []
+    none : (index ≡ 0 → ⊥) → 4370 ≤ index → Dec (maxScript < length s) → Dec (placeOf s index < length s) → markLine s index ≡ []
     none h far (yes long) place = long-later s index (placeOf s index) long h
     none h far (no short) (yes before) = absurd (omega (arith, place-far s index before))
     none h far (no short) (no past) =
         line-answer s index (placeOf s index) (omega arith) h
         ∙ ap (answerPartLine s index) (sym (end-met s (placeOf s index) (omega arith)))
 
-    go : Dec (length s < 15 * index) → 15 * index ≤ length s
-    go (yes h) =
-        let e = none (λ z. omega arith) h (decLt maxScript (length s)) (decLt (placeOf s index) (length s)) in
+    go : Dec (index < 4370) → index < 4370
+    go (yes h) = h
+    go (no h) =
+        let e = none (λ z. omega arith) (omega arith) (decLt maxScript (length s)) (decLt (placeOf s index) (length s)) in
         absurd (omega (arith, ap length e))
-    go (no h) = omega arith

@@ -13,7 +13,7 @@ use Rattle.lines.specs.Lines.{longest, Begins}
 use Rattle.lines.proofs.Building.{begins-as, begins-none}
 use Rattle.marking.specs.Marking.{markLine}
 use Rattle.marking.proofs.Bound.{line-index}
-use Rattle.marking_io.specs.Text.{linesBelow, IsText}
+use Rattle.marking_io.specs.Text.{linesBelow, IsText, mostLines}
 
 -- The first n bytes of a buffer are the lines of the indices below one; each has a line; at is the place of the next.
 pub record Walked (s out : List ℕ) (n index at : ℕ) : Type 0 where
@@ -21,7 +21,7 @@ pub record Walked (s out : List ℕ) (n index at : ℕ) : Type 0 where
   pub place : at ≡ placeOf s index
   pub each : (i : ℕ) → i < index → 0 < length (markLine s i)
   pub short : n ≤ index * longest
-  pub most : 15 * index ≤ length s + 15
+  pub most : index ≤ mostLines
 
 module _ (s : List ℕ) where
   lines-none : linesBelow s 0 ≡ []
@@ -49,6 +49,9 @@ module _ (s : List ℕ) where
 
     -- One line more, and the next.
     module _ (some : 0 < length line) (most : r ≤ n + longest) where
+      below : index < mostLines
+      below = line-index s index some
+
       each-more : (i : ℕ) → i < index + 1 → 0 < length (markLine s i)
       each-more i h = go (decLt i index)
         where
@@ -63,7 +66,7 @@ module _ (s : List ℕ) where
         place = e ∙ ap (pastOf s index) (b .place) ∙ sym (ap (placeOf s) (add-one index));
         each = each-more;
         short = omega (arith, b .short);
-        most = omega (arith, line-index s index some);
+        most = omega (arith, below);
       }
 
     -- There is none: they are the text.

@@ -2,11 +2,11 @@
 --   linesBelow s k   the lines of the indices below k, end to end
 --   IsText s t       t is the text of a script
 --   readBytes        how many bytes are read at most: one more than a script may have
---   textRoom n       a buffer of so many bytes has room for the text of every script of n bytes, and for one line more
---   fewBytes         a script of at most so many bytes has its text made in a short buffer
+--   mostLines        no script has a line of this index or of one after it
+--   textRoom         a buffer of so many bytes has room for every text, and for one line more
 use mathlib.Core.Path.{_≡_}
 use mathlib.Core.List.{List, []}
-use Prim.Native.Nat.{ℕ, _+_, _*_, _/_, _<_}
+use Prim.Native.Nat.{ℕ, _+_, _*_, _<_}
 use lib.ListN.{length}
 use Rattle.automata.specs.WordList.{joinBelow}
 use Rattle.lines.specs.Lines.{longest}
@@ -26,9 +26,8 @@ pub record IsText (s t : List ℕ) : Type 0 where
 abbrev pub readBytes : ℕ
 readBytes = maxScript + 1
 
--- A line has at most 160 bytes, and each record that has one but the first stands 15 bytes or more after the one before.
-abbrev pub textRoom : ℕ → ℕ
-textRoom n = (n / 15 + 2) * longest
+abbrev pub mostLines : ℕ
+mostLines = 4370
 
-abbrev pub fewBytes : ℕ
-fewBytes = 4096
+abbrev pub textRoom : ℕ
+textRoom = mostLines * longest + longest

@@ -10,7 +10,7 @@ ghost use lib.ListN.{length, take, drop};
 ghost use Rattle.walk.specs.Walk.{placeOf};
 ghost use Rattle.lines.specs.Lines.{longest, Begins};
 ghost use Rattle.marking.specs.Marking.{markLine};
-ghost use Rattle.marking_io.specs.Text.{IsText, readBytes, textRoom, fewBytes};
+ghost use Rattle.marking_io.specs.Text.{IsText, readBytes, textRoom};
 ghost use Rattle.marking_io.specs.Calls.{Within, Received, Sent};
 use libc::EINTR;
 use libc::STDIN_FILENO;
@@ -20,13 +20,8 @@ use record::Written;
 // A script has at most 65,536 bytes. One byte more is read, and marking then says that the script is too long.
 const READ: usize = 65537;
 
-// A script of at most so many bytes is short: its text is made in a short buffer, as clearing a long one takes longer than marking it.
-const FEW: usize = 4096;
-
-// The bytes of the two buffers: at most a line of 160 bytes for each 15 bytes of a script and one more, and room for another line.
-const SHORT: usize = 44000;
-
-const LONG: usize = 699360;
+// The bytes of the buffer for the text: at most 4,370 lines of at most 160 bytes, and room for one line more.
+const TEXT: usize = 699360;
 
 // How often a call is made that signals interrupt: every function ends, and no run uses this up.
 const TRIES: usize = 1000000000;
@@ -72,7 +67,7 @@ fn put_line(script: &[u8], index: usize, at: usize, out: &mut [u8], n: usize) ->
 
 // Makes the text of a script in a lent buffer, in linear time, and answers how many bytes it has.
 fn fill(script: &[u8], out: &mut [u8]) -> usize
-    requires { ⌜ textRoom (length (now script)) ≤ length (now out) ⌝ }
+    requires { ⌜ textRoom ≤ length (now out) ⌝ }
     ensures within { λ r. ⌜ r ≤ length (now (out .exit)) ⌝ }
     ensures text { λ r. ⌜ IsText (now (script .entry)) (take r (now (out .exit))) ⌝ }
 {
@@ -168,7 +163,7 @@ fn print(input: &[u8], n: usize, text: &[u8]) -> Printed
 
 // Makes the text of the first n bytes that were read in a lent buffer and prints it, or says on standard error what failed.
 fn mark_into(out: &mut [u8], input: &[u8], n: usize)
-    requires { ⌜ (textRoom n ≤ length (now out)) × (n ≤ length (now input)) ⌝ }
+    requires { ⌜ (textRoom ≤ length (now out)) × (n ≤ length (now input)) ⌝ }
 {
     let length = fill(&input[..n], out);
     match print(input, n, &out[..length]) {
@@ -177,31 +172,12 @@ fn mark_into(out: &mut [u8], input: &[u8], n: usize)
     }
 }
 
-// The same in a short buffer.
-fn mark_few(input: &[u8], n: usize)
-    requires { ⌜ (n ≤ length (now input)) × (n ≤ fewBytes) ⌝ }
-{
-    let mut out = [0u8; SHORT];
-    mark_into(&mut out, input, n);
-}
-
-// The same in a long one.
-fn mark_many(input: &[u8], n: usize)
-    requires { ⌜ (n ≤ length (now input)) × (n ≤ readBytes) ⌝ }
-{
-    let mut out = [0u8; LONG];
-    mark_into(&mut out, input, n);
-}
-
-// The same in a buffer by the length of the script.
+// The same in a buffer of its own.
 fn mark_read(input: &[u8], n: usize)
-    requires { ⌜ (n ≤ length (now input)) × (n ≤ readBytes) ⌝ }
+    requires { ⌜ n ≤ length (now input) ⌝ }
 {
-    if n <= FEW {
-        mark_few(input, n);
-    } else {
-        mark_many(input, n);
-    }
+    let mut out = [0u8; TEXT];
+    mark_into(&mut out, input, n);
 }
 
 // Marks the script that a descriptor gives, in however many pieces. Where it cannot be read, nothing is printed, and a line on standard

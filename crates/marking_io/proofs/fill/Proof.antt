@@ -1,11 +1,12 @@
 -- `fill`: each turn puts one line more behind those that stand, and the first index without one ends the text. The measure is the number
--- of indices left that can have a line, at most one for each 15 bytes.
+-- of indices left that can have a line.
 use mathlib.Core.Path.{_≡_, refl, _∙_}
-use Prim.Native.Nat.{_+_, _*_, _-_, _≤_}
+use Prim.Native.Nat.{_+_, _-_, _<_}
 use native.Mathlib.Omega.{arith}
 use denote.Ref.{now}
 use lib.ListN.{length}
 use Rattle.marking.proofs.Bound.{line-index}
+use Rattle.marking_io.specs.Text.{mostLines}
 use Rattle.marking_io.proofs.Lines.{Walked, walked-none, walked-more, all-lines}
 use Rattle.marking_io.proofs.fill.Statement.{statement}
 use Rattle.marking_io.proofs.fill.Tie as tie
@@ -14,10 +15,10 @@ abbrev Inv-loop : tie.InvT-loop
 Inv-loop script out₀ n₀ index₀ at₀ out n index at = (length out ≡ length out₀) × Walked script out n index at
 
 abbrev μ-loop : tie.MeasureT-loop
-μ-loop script out₀ n₀ index₀ at₀ out n index at = length script + 15 - 15 * index
+μ-loop script out₀ n₀ index₀ at₀ out n index at = mostLines - index
 
--- The index has a line.
-index-below : (c : tie.Else1 Inv-loop μ-loop) → 15 * c .before .before .before .before .before .loop .index ≤ length (now (c .before .before .before .before .before .before .before .before .args .script))
+-- The index has a line, so it is below 4,370.
+index-below : (c : tie.Else1 Inv-loop μ-loop) → c .before .before .before .before .before .loop .index < mostLines
 index-below c =
     let l = c .before .before .before .before .before in
     let put = c .before .before .before .put-line in

@@ -1,12 +1,8 @@
 -- `mark_into`: what is printed is the text that the buffer then has, of the bytes that were read.
-use mathlib.Core.Path.{sym, subst}
-use Prim.Native.Nat.{_≤_}
 use native.Mathlib.Omega.{arith}
 use denote.Ref.{now}
-use lib.ListN.{length}
 use lib.Seq.{length-take-le}
 use borrow.Author.Needs.{needs}
-use Rattle.marking_io.specs.Text.{textRoom}
 use Rattle.marking_io.proofs.mark_into.Statement.{statement}
 use Rattle.marking_io.proofs.mark_into.Tie as tie
 
@@ -16,9 +12,7 @@ slice-aggregate-fill c =
     omega (arith, length-take-le (s .args .n) (now (s .args .input)) (s .pre .1))
 
 fill-requires : tie.Need-fill-requires
-fill-requires c κs =
-    let s = c .before .before .before .before in
-    subst (λ k. textRoom k ≤ length (now (s .args .out))) (sym (length-take-le (s .args .n) (now (s .args .input)) (s .pre .1))) (s .pre .0)
+fill-requires c κs = search needs
 
 slice-reshare-prefix-print : tie.Need-slice-reshare-prefix-print
 slice-reshare-prefix-print c = omega (arith, c .before .before .fill .ensures .0)
