@@ -5,7 +5,7 @@
 --   mostLines        no script has a line of this index or of one after it
 --   textRoom         a buffer of so many bytes has room for every text, and for one line more
 use mathlib.Core.Path.{_≡_}
-use mathlib.Core.List.{List, []}
+use mathlib.Core.List.{List}
 use Prim.Native.Nat.{ℕ, _+_, _*_, _<_}
 use lib.ListN.{length}
 use Rattle.automata.specs.WordList.{joinBelow}

@@ -1,7 +1,7 @@
 -- `fill`: each turn puts one line more behind those that stand, and the first index without one ends the text. The measure is the number
 -- of indices left that can have a line.
 use mathlib.Core.Path.{_≡_, refl, _∙_}
-use Prim.Native.Nat.{_+_, _-_, _<_}
+use Prim.Native.Nat.{_-_, _<_}
 use native.Mathlib.Omega.{arith}
 use denote.Ref.{now}
 use lib.ListN.{length}

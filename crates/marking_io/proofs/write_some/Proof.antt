@@ -1,7 +1,5 @@
+-- `write_some`: what a call took is within what it was handed. The measure is the number of tries left.
 use native.Mathlib.Omega.{arith}
-use borrow.Author.Needs.{needs}
-use mathlib.Core.Path.{_≡_, refl}
-use lib.ListN.{length}
 use Rattle.marking_io.proofs.write_some.Statement.{statement}
 use Rattle.marking_io.proofs.write_some.Tie as tie
 
