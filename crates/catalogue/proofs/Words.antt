@@ -108,7 +108,7 @@ starts-right =
 
 module _ (j : ℕ) (h : j ≤ last) where
   -- One state for each basis word.
-  pub entry-size : entryOf j .states ≡ length (basisAt j)
+  entry-size : entryOf j .states ≡ length (basisAt j)
   unfolding entryOf basisAt
   entry-size = each 6 (λ j. entryOf j .states) (λ j. length (basisAt j)) refl j (omega arith)
 

@@ -6,7 +6,7 @@ use native.Mathlib.Nat.{add-assoc, zero-lt-suc, mul-zero, mul-suc, pow-suc, div-
 use native.Mathlib.Numerals.{add-one}
 use native.Mathlib.Omega.{arith}
 use lib.ListN.{length, getD, take, drop, length-append}
-use lib.Seq.{getD-append-add, take-add, drop-cons, drop-drop, ext-getD}
+use lib.Seq.{getD-append-add, take-add, drop-cons, drop-drop}
 use Rattle.automata.specs.WordList.{joinBelow}
 use Rattle.record.specs.Bytes.{number, bytesOf, allBytes, AllBelow}
 
@@ -80,12 +80,6 @@ number-allBytes w (x ∷ xs) fit (suc j) h =
 -- The j-th of the numbers whose bytes follow a head is read back.
 pub number-written : (h : List ℕ) (w : ℕ) (xs : List ℕ) → AllBelow (256 ^ w) xs → (j : ℕ) → j < length xs → number w (h ++ allBytes w xs) (length h + w * j) ≡ getD xs j 0
 number-written h w xs fit j p = number-append h (allBytes w xs) w (w * j) ∙ number-allBytes w xs fit j p
-
--- Lists of as many numbers that fit, with the same bytes, are the same.
-pub allBytes-same : (w : ℕ) (xs ys : List ℕ) → length xs ≡ length ys → AllBelow (256 ^ w) xs → AllBelow (256 ^ w) ys → allBytes w xs ≡ allBytes w ys → xs ≡ ys
-allBytes-same w xs ys l fx fy e =
-    ext-getD 0 xs ys l
-    (λ i p. sym (number-allBytes w xs fx i p) ∙ rw e (number-allBytes w ys fy i (omega arith)))
 
 -- ---- read, then written
 

@@ -16,7 +16,7 @@ use Rattle.automata.proofs.Mask.{mask-lt, mask-bit, mask-of-bits}
 use Rattle.automata.proofs.Fields.{rows-at, rows-length, rows-same}
 use Rattle.record.specs.Bytes.{number, bytesOf, allBytes, AllBelow}
 use Rattle.record.specs.Record.{version, maxStates, maxLetters, rowBytes, initialAt, finalAt, rowsAt, lengthOf, statesOf, lettersOf, rowAt, headOf, encode, automatonOf, WellFormed}
-use Rattle.record.proofs.Bytes.{number-2, length-allBytes, bytesOf-below, number-written, allBytes-same, bytesOf-number, allBytes-numbers, numbers}
+use Rattle.record.proofs.Bytes.{number-2, length-allBytes, bytesOf-below, number-written, bytesOf-number, allBytes-numbers, numbers}
 use Rattle.record.proofs.RowList.{rows-flat, row-lt, below-append, rows-below}
 use Rattle.record.proofs.Refusals.{Passed, good-check, check-good}
 
@@ -112,14 +112,6 @@ module _ (a : ℕ) (A : Automaton) where
 pub fields-encode : (a : ℕ) (A B : Automaton) → fields a A ≡ fields a B → encode a A ≡ encode a B
 unfolding encode
 fields-encode a A B e = ap (λ fs. headOf (getD fs 0 0) a ++ allBytes rowBytes (drop 1 fs)) e
-
-pub encode-fields : (a : ℕ) (A B : Automaton) → A .states ≤ maxStates → B .states ≤ maxStates → encode a A ≡ encode a B → fields a A ≡ fields a B
-unfolding encode
-encode-fields a A B hA hB e =
-    let states : A .states ≡ B .states = ap (λ bs. getD bs 5 0) e in
-    let size : length (numbersOf a A) ≡ length (numbersOf a B) = length-numbers a A ∙ ap (λ n. 2 + a * n) states ∙ sym (length-numbers a B) in
-    ap₂ _∷_ states
-    (allBytes-same 4 (numbersOf a A) (numbersOf a B) size (numbers-fit a A hA) (numbers-fit a B hB) (ap (λ bs. drop 7 bs) e))
 
 -- ---- a record's automaton
 
