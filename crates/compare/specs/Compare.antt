@@ -6,6 +6,7 @@
 --   acceptorOf s bs cs          the record that the side names
 --   Differ bs cs w s            w is the first word that just one of the two accepts, and the side s accepts it
 --   ShortWord bs cs n           n letters are at most 63, and fewer than the two dimensions added
+--   Withheld bs cs buf k        a first word of k letters that was not written, since the buffer is shorter
 --   Compares bs cs buf exit r   what is claimed of the answer r and the buffer at exit, over all words
 use mathlib.Core.Path.{_≡_}
 use mathlib.Core.Bool.{Bool, true, false}
