@@ -11,7 +11,8 @@ use Rattle.automata.proofs.FirstDifference.{difference-none, none-difference, s
 use Rattle.record.specs.Record.{lettersOf, automatonOf, languageOf}
 use Rattle.record.specs.Outcome.{bufferIn}
 use Rattle.record.proofs.Outcome.{outcome-take}
-use Rattle.operands.specs.Operands.{pairOf, Operands, SameWords, FirstWord}
+use Rattle.record.specs.Claims.{Operands, SameWords, FirstWord}
+use Rattle.operands.specs.Operands.{pairOf}
 use Rattle.operands.specs.declared.Pair.the-variants.{Both, Refused as Bad}
 use Rattle.operands.proofs.PairLaws.{both-pass, both-passed, pair-named}
 use Rattle.compare.specs.Compare.{differenceOf, compareOutcome, sideOf, acceptorOf, compareAnswer, Differ, ShortWord, Withheld, Compares}

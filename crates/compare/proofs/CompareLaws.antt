@@ -15,7 +15,8 @@ use Rattle.record.specs.Record.{lettersOf, automatonOf, languageOf}
 use Rattle.record.specs.Outcome.{refused, wrote, fit}
 use Rattle.record.proofs.Outcome.{fit-short, fit-done}
 use Rattle.record.proofs.Claims.{dimension-fits}
-use Rattle.operands.specs.Operands.{pairOf, Operands, FirstWord}
+use Rattle.record.specs.Claims.{Operands, FirstWord}
+use Rattle.operands.specs.Operands.{pairOf}
 use Rattle.operands.specs.declared.Pair.{Pair}
 use Rattle.operands.specs.declared.Pair.the-variants.{Both, Refused as Bad}
 use Rattle.operands.proofs.PairLaws.{both-passed}

@@ -17,9 +17,9 @@ use lib.ListN.{length, take}
 use Rattle.automata.specs.Automaton.{Automaton, accepts}
 use Rattle.automata.specs.FirstDifference.{firstDifference}
 use Rattle.record.specs.Record.{lettersOf, automatonOf, languageOf}
-use Rattle.record.specs.Claims.{HasDimension}
+use Rattle.record.specs.Claims.{HasDimension, Operands, SameWords, FirstWord}
 use Rattle.record.specs.Outcome.{Outcome, refused, wrote, fit}
-use Rattle.operands.specs.Operands.{pairOf, afterPair, Operands, SameWords, FirstWord}
+use Rattle.operands.specs.Operands.{pairOf, afterPair}
 use Rattle.operands.specs.declared.Pair.{Pair}
 use Rattle.operands.specs.declared.Pair.the-variants.{Both, Refused as Bad}
 use Rattle.compare.specs.declared.Side.{Side}

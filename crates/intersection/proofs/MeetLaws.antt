@@ -24,7 +24,8 @@ use Rattle.record.specs.Record.{lettersOf, automatonOf, languageOf}
 use Rattle.record.specs.Outcome.{Outcome, refused, wrote, answerOf, answerIn, bufferIn}
 use Rattle.record.specs.declared.Written.{Written}
 use Rattle.record.specs.declared.Written.the-variants.{Refused}
-use Rattle.operands.specs.Operands.{pairOf, Operands}
+use Rattle.record.specs.Claims.{Operands}
+use Rattle.operands.specs.Operands.{pairOf}
 use Rattle.operands.specs.declared.Pair.the-variants.{Refused as Bad}
 use Rattle.results.specs.Results.{resultOf, Limits}
 use Rattle.results.specs.Built.{Built}

@@ -14,10 +14,10 @@ use Rattle.automata.specs.Language.{intersection}
 use Rattle.automata.specs.MinimalOf.{dimensionOf}
 use Rattle.automata.specs.Operations.{meetOf}
 use Rattle.record.specs.Record.{lettersOf, automatonOf, languageOf}
-use Rattle.record.specs.Claims.{HasDimension}
+use Rattle.record.specs.Claims.{HasDimension, Operands}
 use Rattle.record.specs.Outcome.{Outcome, refused}
 use Rattle.record.specs.declared.Written.{Written}
-use Rattle.operands.specs.Operands.{pairOf, afterPair, Operands}
+use Rattle.operands.specs.Operands.{pairOf, afterPair}
 use Rattle.results.specs.Results.{resultOf, Limits, Gives}
 
 abbrev pub maxProduct : ℕ

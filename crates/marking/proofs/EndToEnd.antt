@@ -6,7 +6,7 @@ use Prim.Native.Nat.{ℕ, suc, _<_, _≤_}
 use native.Mathlib.Omega.{arith}
 use lib.ListN.{length, getD}
 use Rattle.record.specs.Record.{checkOf, WellFormed}
-use Rattle.operands.specs.Operands.{Operands}
+use Rattle.record.specs.Claims.{Operands}
 use Rattle.script.specs.Script.{partAt}
 use Rattle.script.proofs.Reading.{read-first}
 use Rattle.script.proofs.EndToEnd.{joined, AllFramed, formed-framed, GivenOut, given-out}

@@ -8,8 +8,7 @@ use lib.ListN.{length, take, drop}
 use Rattle.automata.proofs.Dimension.{dimension-unique, dimension-of}
 use Rattle.automata.proofs.FirstDifference.{difference-none, difference-some, none-difference, some-difference}
 use Rattle.record.specs.Record.{lettersOf, WellFormed, automatonOf, languageOf}
-use Rattle.record.specs.Claims.{HasDimension}
-use Rattle.operands.specs.Operands.{Operands}
+use Rattle.record.specs.Claims.{HasDimension, Operands}
 use Rattle.operands.proofs.PairLaws.{both-pass}
 use Rattle.compare.specs.Compare.{differenceOf, sideOf, Differ}
 use Rattle.compare.specs.declared.Side.{Side}

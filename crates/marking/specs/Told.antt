@@ -10,10 +10,9 @@ use mathlib.Core.List.{List}
 use Prim.Native.Nat.{ℕ, _<_, _≤_}
 use lib.ListN.{length, take}
 use Rattle.record.specs.Record.{WellFormed}
-use Rattle.record.specs.Claims.{HasDimension}
+use Rattle.record.specs.Claims.{HasDimension, Operands, SameWords}
 use Rattle.record.specs.declared.Written.{Written}
 use Rattle.record.specs.declared.Written.the-variants.{Done}
-use Rattle.operands.specs.Operands.{Operands, SameWords}
 use Rattle.compare.specs.Compare.{Differ}
 use Rattle.compare.specs.declared.Side.{Side}
 use Rattle.script.specs.Script.{partAt, bytesAt}

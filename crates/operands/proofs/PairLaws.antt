@@ -9,7 +9,8 @@ use lib.Dec.{eqb}
 use Rattle.record.specs.Record.{lettersOf, checkOf, WellFormed}
 use Rattle.record.specs.declared.Checked.{Checked}
 use Rattle.record.specs.declared.Checked.the-variants.{Good, Refused as Bad}
-use Rattle.operands.specs.Operands.{named, pairOf, Operands}
+use Rattle.record.specs.Claims.{Operands}
+use Rattle.operands.specs.Operands.{named, pairOf}
 use Rattle.operands.specs.declared.Pair.{Pair}
 use Rattle.operands.specs.declared.Pair.the-variants.{Both, Refused}
 

@@ -13,7 +13,8 @@ use Rattle.record.specs.Outcome.{Outcome, refused, checked}
 use Rattle.record.specs.declared.Checked.{Checked}
 use Rattle.record.specs.declared.Checked.the-variants.{Good, Refused as Wrong}
 use Rattle.record.proofs.Outcome.{checked-wrote}
-use Rattle.operands.specs.Operands.{pairOf, afterPair, Operands}
+use Rattle.record.specs.Claims.{Operands}
+use Rattle.operands.specs.Operands.{pairOf, afterPair}
 use Rattle.operands.specs.declared.Pair.the-variants.{Refused as Bad}
 use Rattle.results.specs.Results.{resultOf}
 use Rattle.results.proofs.ResultLaws.{Service, service-of}

@@ -15,7 +15,8 @@ use Rattle.automata.specs.Operations.{sumOf, complementOf, mirrorOf}
 use Rattle.record.specs.Record.{lettersOf, checkOf, WellFormed, automatonOf, languageOf}
 use Rattle.record.specs.Outcome.{Outcome, checked}
 use Rattle.record.specs.declared.Written.{Written}
-use Rattle.operands.specs.Operands.{pairOf, afterPair, Operands}
+use Rattle.record.specs.Claims.{Operands}
+use Rattle.operands.specs.Operands.{pairOf, afterPair}
 use Rattle.results.specs.Results.{resultOf, Gives}
 use Rattle.operations.specs.declared.Unary.{Unary}
 use Rattle.operations.specs.declared.Unary.the-variants.{Complement, Mirror}

@@ -9,7 +9,7 @@ ghost use Rattle.rows.specs.Machine.{Valid};
 ghost use Rattle.direct_sum.specs.Filled.{Filled};
 ghost use Rattle.record.specs.Record.{lettersOf, WellFormed, languageOf};
 ghost use Rattle.record.specs.Outcome.{answerIn, bufferIn};
-ghost use Rattle.operands.specs.Operands.{Operands};
+ghost use Rattle.record.specs.Claims.{Operands};
 ghost use Rattle.results.specs.Built.{heldWords, Built};
 ghost use Rattle.operations.specs.Operations.{sumOutcome, sumWords, unaryLanguage, unaryOutcome, complementOutcome, mirrorOutcome, Sums, Operates, Complements, Mirrors};
 use operands::Pair;

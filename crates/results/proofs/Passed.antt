@@ -6,7 +6,8 @@ use native.Mathlib.Omega.{arith}
 use Rattle.record.specs.Record.{maxLetters, lettersOf, WellFormed}
 use Rattle.record.specs.Outcome.{Outcome, refused, wrote}
 use Rattle.record.proofs.Refusals.{good-check}
-use Rattle.operands.specs.Operands.{pairOf, afterPair, Operands}
+use Rattle.record.specs.Claims.{Operands}
+use Rattle.operands.specs.Operands.{pairOf, afterPair}
 use Rattle.operands.specs.declared.Pair.{Pair}
 use Rattle.operands.specs.declared.Pair.the-variants.{Both, Refused as Bad}
 use Rattle.operands.proofs.PairLaws.{both-pass, both-passed, pair-named}

@@ -1,6 +1,5 @@
 // Two well-formed records over the same letters side by side, and what a comparison of them finds.
-ghost use mathlib.Core.Path.{_≡_};
-ghost use Rattle.record.specs.Record.{lettersOf, WellFormed};
+ghost use Rattle.record.specs.Claims.{Operands};
 ghost use Rattle.hunt.specs.Both.{Paired};
 use record::FINAL_AT;
 use record::INITIAL_AT;
@@ -8,7 +7,7 @@ use rows::Machine;
 
 // The sizes, the initial row and the final column of two records side by side.
 pub fn paired(first: &[u8], second: &[u8]) -> Machine
-    requires { ⌜ WellFormed (now first) × WellFormed (now second) × (lettersOf (now first) ≡ lettersOf (now second)) ⌝ }
+    requires { ⌜ Operands (now first) (now second) ⌝ }
     ensures { λ m. ⌜ Paired (now (first .entry)) (now (second .entry)) m ⌝ }
 {
     let n = record::size(first[5]);

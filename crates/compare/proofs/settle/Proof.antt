@@ -33,7 +33,7 @@ traced : (c : tie.After-size) → Traced (c .size .result) (c .before .before .b
 traced c = rw (c .size .ensures .0) (found (c .before .before .before) .traced)
 
 compare-requires : tie.Need-compare-requires
-compare-requires c κs = let w = both-passed _ _ (c .before .before .before .before .pre) in (w .0, w .1, w .2, refl)
+compare-requires c κs = (both-passed _ _ (c .before .before .before .before .pre), refl)
 
 enum-known-v : tie.Need-enum-known-v
 enum-known-v c = search needs

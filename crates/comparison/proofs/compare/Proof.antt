@@ -25,7 +25,7 @@ paired-requires c κs = search needs
 field-at-requires : tie.Need-field-at-requires
 field-at-requires c κs =
     let s = c .before .before .before .before in
-    omega (arith, good-check (now (s .args .first)) (s .pre .0) .whole)
+    omega (arith, good-check (now (s .args .first)) (s .pre .0 .0) .whole)
 
 parity-requires : tie.Need-parity-requires
 parity-requires c κs = search needs
@@ -39,7 +39,7 @@ returns c =
     let a = s .args in
     let p = c .before .before .before .before .before .paired in
     let g = c .before .before .before .field-at in
-    judged-empty (now (a .first)) (now (a .second)) (p .result) (p .ensures) (a .w .now) (c .parity2 .result) (side-told (now (a .first)) (s .pre .0) (mask (g .result)) (mask (p .result .initial)) (c .parity2 .result) (g .ensures) (c .parity2 .ensures)) (sym (told (c .before .before)) ∙ c .before .if1 .taken)
+    judged-empty (now (a .first)) (now (a .second)) (p .result) (p .ensures) (a .w .now) (c .parity2 .result) (side-told (now (a .first)) (s .pre .0 .0) (mask (g .result)) (mask (p .result .initial)) (c .parity2 .result) (g .ensures) (c .parity2 .ensures)) (sym (told (c .before .before)) ∙ c .before .if1 .taken)
 
 is-none-requires : tie.Need-is-none-requires
 is-none-requires c κs = search needs
@@ -64,7 +64,7 @@ returns-3 c =
 first-longer-requires : tie.Need-first-longer-requires
 first-longer-requires c κs =
     let s = c .before .before .before .before .before .before .before .before .before .before .before .before in
-    record { paired = c .before .before .before .before .before .before .before .before .before .paired .ensures; trail = s .pre .3; empty = sym (told (c .before .before .before .before .before .before)) ∙ c .before .before .before .before .before .if1 .left; column = c .before .before .before .before .before .before .before .field-at .ensures }
+    record { paired = c .before .before .before .before .before .before .before .before .before .paired .ensures; trail = s .pre .1; empty = sym (told (c .before .before .before .before .before .before)) ∙ c .before .before .before .before .before .if1 .left; column = c .before .before .before .before .before .before .before .field-at .ensures }
 
 returns-4 : tie.Need-returns-4
 returns-4 c = search needs

@@ -11,8 +11,8 @@ use Rattle.rows.specs.Machine.{Bounded}
 use Rattle.minimisation.specs.Minimises.{Minimises}
 use Rattle.record.specs.Record.{lettersOf, automatonOf}
 use Rattle.record.specs.declared.Written.the-variants.{Refused}
+use Rattle.record.specs.Claims.{Operands}
 use Rattle.operands.proofs.PairLaws.{both-passed}
-use Rattle.operands.specs.Operands.{Operands}
 use Rattle.results.specs.Results.{pairRefusal}
 use Rattle.intersection.proofs.MeetLaws.{meet-held, meet-refused, meet-over, within, meet-refuses, meet-gives}
 use borrow.Author.Needs.{needs}

@@ -2,8 +2,8 @@
 use mathlib.Core.Path.{refl, sym, ap, _∙_}
 use denote.Ref.{now}
 use lib.ListN.{length}
+use Rattle.record.specs.Claims.{Operands}
 use Rattle.operands.proofs.PairLaws.{both-passed}
-use Rattle.operands.specs.Operands.{Operands}
 use Rattle.results.specs.Results.{pairRefusal}
 use Rattle.operations.proofs.OperationLaws.{sum-refused, sum-service}
 use borrow.Author.Needs.{needs}
