@@ -2,7 +2,8 @@
 // buffer that is read into shows a script that is too long; what is to be printed is the text of the bytes that were read, no byte more or
 // less; each write call is handed all of it that is left; and printing ends without a failure only where none is left. Outside stand the
 // calls: that a read call puts the input's next bytes into what it is lent, and that a write call takes as many bytes as it says. That the
-// counts of the calls are added up, and that a failure is told, is read off `read_script`, `print`, `mark_into` and `mark_from`.
+// counts of the calls are added up, and that a failure is told, is read off `read_script`, `print`, `mark_into` and `mark_from`. What was read
+// is handed on as `read_script` gave it, and what is printed is the text of that.
 ghost use mathlib.Core.Path.{_≡_};
 ghost use mathlib.Core.List.{_++_};
 ghost use Prim.Native.Nat.{_+_, _≤_};
@@ -11,7 +12,7 @@ ghost use Rattle.walk.specs.Walk.{placeOf};
 ghost use Rattle.lines.specs.Lines.{longest, Begins};
 ghost use Rattle.marking.specs.Marking.{markLine};
 ghost use Rattle.marking_io.specs.Text.{IsText, readBytes, textRoom};
-ghost use Rattle.marking_io.specs.Calls.{Within, Received, Sent};
+ghost use Rattle.marking_io.specs.Calls.{Within, Received, scriptIn, Sent};
 use libc::EINTR;
 use libc::STDIN_FILENO;
 use libc::STDOUT_FILENO;
@@ -36,10 +37,8 @@ enum Call {
 
 // What was read.
 enum Input {
-    // So many bytes, and the input ended.
-    Ended { length: usize },
-    // So many bytes, as many as there was room for.
-    Full { length: usize },
+    // So many bytes: all up to the input's end, or as many as there was room for.
+    Got { length: usize },
     // A read call failed.
     Unread,
 }
@@ -116,11 +115,11 @@ fn read_script(descriptor: i32, buffer: &mut [u8]) -> Input
             return Input::Unread;
         };
         if count == 0 {
-            return Input::Ended { length: n };
+            return Input::Got { length: n };
         }
         n += count;
     }
-    Input::Full { length: n }
+    Input::Got { length: n }
 }
 
 // One write of what is left of a text. The text and how much of it is done are for the contract alone.
@@ -143,9 +142,9 @@ fn write_some(text: &[u8], done: usize, rest: &[u8]) -> Call
     Call::Broken
 }
 
-// Prints a text: that of the first n bytes of the input, which are for the contract alone.
-fn print(input: &[u8], n: usize, text: &[u8]) -> Printed
-    requires { ⌜ IsText (take n (now input)) (now text) ⌝ }
+// Prints a text: that of the script that was read. The input and how much of it was read are for the contract alone.
+fn print(input: &[u8], got: Input, text: &[u8]) -> Printed
+    requires { ⌜ IsText (scriptIn got (now input)) (now text) ⌝ }
     ensures { λ r. ⌜ Sent r (length (now (text .entry))) ⌝ }
 {
     let mut done = 0;
@@ -161,32 +160,35 @@ fn print(input: &[u8], n: usize, text: &[u8]) -> Printed
     Printed::All { length: done }
 }
 
-// Makes the text of the first n bytes that were read in a lent buffer and prints it, or says on standard error what failed.
-fn mark_into(out: &mut [u8], input: &[u8], n: usize)
-    requires { ⌜ (textRoom ≤ length (now out)) × (n ≤ length (now input)) ⌝ }
+// Makes the text of the script that was read in a lent buffer and prints it, or says on standard error what failed.
+fn mark_into(out: &mut [u8], input: &[u8], got: Input)
+    requires { ⌜ (textRoom ≤ length (now out)) × Received got (length (now input)) ⌝ }
 {
+    let Input::Got { length: n } = got else {
+        return;
+    };
     let length = fill(&input[..n], out);
-    match print(input, n, &out[..length]) {
+    match print(input, got, &out[..length]) {
         Printed::All { length: _ } => {}
         Printed::Unwritten => os::fail(b"mark: standard output"),
     }
 }
 
 // The same in a buffer of its own.
-fn mark_read(input: &[u8], n: usize)
-    requires { ⌜ n ≤ length (now input) ⌝ }
+fn mark_read(input: &[u8], got: Input)
+    requires { ⌜ Received got (length (now input)) ⌝ }
 {
     let mut out = [0u8; TEXT];
-    mark_into(&mut out, input, n);
+    mark_into(&mut out, input, got);
 }
 
 // Marks the script that a descriptor gives, in however many pieces. Where it cannot be read, nothing is printed, and a line on standard
 // error says of what was to be read why.
 pub fn mark_from(descriptor: i32, what: &[u8]) {
     let mut input = [0u8; READ];
-    match read_script(descriptor, &mut input) {
-        Input::Ended { length } => mark_read(&input, length),
-        Input::Full { length } => mark_read(&input, length),
+    let got = read_script(descriptor, &mut input);
+    match got {
+        Input::Got { length: _ } => mark_read(&input, got),
         Input::Unread => os::fail(what),
     }
 }

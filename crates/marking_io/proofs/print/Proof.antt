@@ -12,10 +12,10 @@ use Rattle.marking_io.proofs.print.Statement.{statement}
 use Rattle.marking_io.proofs.print.Tie as tie
 
 abbrev Inv-loop : tie.InvT-loop
-Inv-loop input n text done₀ done = done ≤ length text
+Inv-loop input text done₀ done = done ≤ length text
 
 abbrev μ-loop : tie.MeasureT-loop
-μ-loop input n text done₀ done = length text - done
+μ-loop input text done₀ done = length text - done
 
 -- What a call took was left.
 module _ (c : tie.After-count Inv-loop μ-loop) where
