@@ -1,6 +1,6 @@
 -- The records of a script, end to end, stand where marking looks for them: the key first, then each answer in turn. What the reader gives
 -- out, one record after another, is what marking finds.
-use mathlib.Core.Path.{_≡_, refl, sym, ap, _∙_}
+use mathlib.Core.Path.{refl, sym, ap, _∙_}
 use mathlib.Core.List.{List, [], _∷_}
 use Prim.Native.Nat.{ℕ, suc, _<_, _≤_}
 use native.Mathlib.Omega.{arith}

@@ -11,7 +11,6 @@ use Rattle.record.specs.Record.{lettersOf, WellFormed, automatonOf, languageOf}
 use Rattle.record.specs.Claims.{HasDimension, Operands}
 use Rattle.operands.proofs.PairLaws.{both-pass}
 use Rattle.compare.specs.Compare.{differenceOf, sideOf, Differ}
-use Rattle.compare.specs.declared.Side.{Side}
 use Rattle.compare.proofs.CompareLaws.{clash}
 use Rattle.compare.proofs.Claims.{accepted, side-named}
 use Rattle.script.specs.Script.{partAt, afterPart}

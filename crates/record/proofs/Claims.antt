@@ -1,8 +1,8 @@
 -- What the form of a minimal record amounts to, and that the record of a minimal automaton has it.
 use mathlib.Core.Path.{_≡_, refl, sym, ap, subst, _∙_}
 use mathlib.Core.Bool.{false}
-use mathlib.Core.List.{List, [], _∷_}
-use Prim.Native.Nat.{ℕ, zero, suc, _+_, _*_, _^_, _≤_, _<_}
+use mathlib.Core.List.{List}
+use Prim.Native.Nat.{ℕ, _+_, _*_, _^_, _≤_, _<_}
 use native.Mathlib.Omega.{arith}
 use lib.ListN.{length}
 use Rattle.automata.specs.Automaton.{Automaton, accepts}
@@ -15,7 +15,7 @@ use Rattle.automata.proofs.MinimalOf.{minimal-of}
 use Rattle.automata.proofs.Dimension.{dimension-unique, dimension-of, dimension-least, minimal-states}
 use Rattle.automata.proofs.Fields.{bits-fields}
 use Rattle.record.specs.Bytes.{number}
-use Rattle.record.specs.Record.{maxStates, maxLetters, rowBytes, initialAt, finalAt, statesOf, lettersOf, WellFormed, automatonOf, languageOf, encode}
+use Rattle.record.specs.Record.{maxStates, maxLetters, rowBytes, initialAt, finalAt, statesOf, WellFormed, automatonOf, languageOf, encode}
 use Rattle.record.specs.Claims.{MinimalForm, MinimalRecord}
 use Rattle.record.proofs.Refusals.{good-check}
 use Rattle.record.proofs.Encode.{letters-encode, check-encode, bits-encode, bytes-encode, fields-encode, encode-automaton}

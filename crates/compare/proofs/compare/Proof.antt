@@ -1,6 +1,5 @@
 -- `compare`: a refusal of the checks, or the answer of `settle`; the claims follow from the answer and the buffer.
-use mathlib.Core.Path.{_≡_, sym, ap, _∙_}
-use native.Mathlib.Omega.{arith}
+use mathlib.Core.Path.{sym, ap, _∙_}
 use denote.Ref.{now}
 use lib.ListN.{length}
 use Rattle.record.specs.Record.{automatonOf}
