@@ -206,6 +206,9 @@ Pair any_pair(Chance& chance, std::size_t most)
     if (chance.one_in(12)) {
         pair.other = damaged(chance, std::move(pair.other));
     }
+    if (chance.one_in(12)) {
+        pair.other.clear();
+    }
     return pair;
 }
 

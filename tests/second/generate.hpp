@@ -53,7 +53,7 @@ Bytes record(Chance& chance);                               // well formed
 Bytes damaged(Chance& chance, Bytes record);
 Bytes any_record(Chance& chance);                           // mostly well formed
 
-// Two records: strangers, equals under another basis, equals but for one word or one bit, unlike letters, damaged.
+// Two records: strangers, equals under another basis, equals but for one word or one bit, unlike letters, damaged, the second blank.
 struct Pair {
     Bytes first, other;
 };

@@ -38,12 +38,12 @@ Entry entry_at(const Bytes& script, std::size_t offset)
     return entry;
 }
 
-// The entries that get a line. A script without bytes has the missing key as its only one.
+// The entries that get a line; a script of 0 bytes has none.
 std::vector<Entry> entries_of(const Bytes& script)
 {
     std::vector<Entry> entries;
     std::size_t offset = 0;
-    while (entries.empty() || offset < script.size()) {
+    while (offset < script.size()) {
         Entry entry = entry_at(script, offset);
         offset += entry.record.size();
         if (!entries.empty() && entry.fault.number == 0 && entry.record[6] != entries[0].record[6]) {

@@ -27,18 +27,35 @@ Reply check_as(std::size_t which, const Bytes& record)
     return fault.number == 0 ? Reply{} : refuse(fault.number, which, fault.place);
 }
 
-// Rows 1 to 7 of both, then row 8.
-Reply check_both(const Bytes& first, const Bytes& other)
+// What two records mean, or why they are refused.
+struct Pair {
+    Reply fault = {};
+    Machine one, two;
+};
+
+// Rows 1 to 7 of the first. A second record of 0 bytes, a blank, is then the machine with no states over the first one's letters; any
+// other runs rows 1 to 7 too, and then row 8.
+Pair read_both(const Bytes& first, const Bytes& other)
 {
-    const Reply one = check_as(1, first);
-    if (refused(one)) {
-        return one;
+    Pair pair;
+    pair.fault = check_as(1, first);
+    if (refused(pair.fault)) {
+        return pair;
     }
-    const Reply two = check_as(2, other);
-    if (refused(two)) {
-        return two;
+    pair.one = read_record(first);
+    if (other.empty()) {
+        pair.two = blank_machine(0, pair.one.letters);
+        return pair;
     }
-    return first[6] == other[6] ? Reply{} : refuse(8, 2, 6);
+    pair.fault = check_as(2, other);
+    if (refused(pair.fault)) {
+        return pair;
+    }
+    pair.two = read_record(other);
+    if (pair.one.letters != pair.two.letters) {
+        pair.fault = refuse(8, 2, 6);
+    }
+    return pair;
 }
 
 // Row 11, then row 12, then the record of a minimal machine.
@@ -92,11 +109,11 @@ Reply minimal(const Bytes& record, Bytes& out)
 
 Reply compare(const Bytes& first, const Bytes& other, Bytes& word)
 {
-    const Reply fault = check_both(first, other);
-    if (refused(fault)) {
-        return fault;
+    const Pair pair = read_both(first, other);
+    if (refused(pair.fault)) {
+        return pair.fault;
     }
-    const Difference difference = first_difference(read_record(first), read_record(other));
+    const Difference difference = first_difference(pair.one, pair.two);
     if (!difference.differs) {
         return {};
     }
@@ -107,21 +124,21 @@ Reply compare(const Bytes& first, const Bytes& other, Bytes& word)
 
 Reply sum(const Bytes& first, const Bytes& other, Bytes& out)
 {
-    const Reply fault = check_both(first, other);
-    if (refused(fault)) {
-        return fault;
+    const Pair pair = read_both(first, other);
+    if (refused(pair.fault)) {
+        return pair.fault;
     }
-    return lend_minimal(minimal_machine({Kind::sum, {read_record(first), read_record(other)}}), out);
+    return lend_minimal(minimal_machine({Kind::sum, {pair.one, pair.two}}), out);
 }
 
 Reply meet(const Bytes& first, const Bytes& other, Bytes& out)
 {
-    const Reply fault = check_both(first, other);
-    if (refused(fault)) {
-        return fault;
+    const Pair pair = read_both(first, other);
+    if (refused(pair.fault)) {
+        return pair.fault;
     }
-    const Machine one = minimal_machine({Kind::own, {read_record(first)}});
-    const Machine two = minimal_machine({Kind::own, {read_record(other)}});
+    const Machine one = minimal_machine({Kind::own, {pair.one}});
+    const Machine two = minimal_machine({Kind::own, {pair.two}});
     if (one.states * two.states > most_product) {
         return refuse(10, 0, one.states * two.states);
     }

@@ -75,6 +75,12 @@ void brute_single(Chance& chance, std::size_t number)
            "brute complement", number);
 }
 
+// A second record for this machine: its own, or one of 0 bytes where that means the same.
+Bytes second_record(Chance& chance, const Machine& machine)
+{
+    return machine.states == 0 && chance.one_in(2) ? Bytes{} : write_record(machine);
+}
+
 void brute_compare(Chance& chance, std::size_t number)
 {
     const std::size_t letters = chance.between(1, 2);
@@ -85,7 +91,7 @@ void brute_compare(Chance& chance, std::size_t number)
     Word expected;
     const bool differs = brute::first_difference(first, other, one.states + two.states, letters, expected);
     Bytes word(10, 9);
-    const Reply reply = second::compare(write_record(one), write_record(two), word);
+    const Reply reply = second::compare(write_record(one), second_record(chance, two), word);
     word.resize(reply.length);
     const std::size_t side = !differs ? 0 : first(expected) ? 1 : 2;
     expect(reply.number == 0 && reply.value == side && word == expected, "brute compare", number);
@@ -100,10 +106,12 @@ void brute_pair(Chance& chance, std::size_t number)
     brute::Oracle other = brute::oracle_of(two);
     brute::Oracle either([&](const Word& word) { return first(word) != other(word); });
     brute::Oracle both([&](const Word& word) { return first(word) && other(word); });
-    expect(bytes_of(second::sum, write_record(one), write_record(two))
+    const Bytes first_record = write_record(one);
+    const Bytes other_record = second_record(chance, two);
+    expect(bytes_of(second::sum, first_record, other_record)
                == brute::minimal_record(either, one.states + two.states, letters),
            "brute sum", number);
-    expect(bytes_of(second::meet, write_record(one), write_record(two))
+    expect(bytes_of(second::meet, first_record, other_record)
                == brute::minimal_record(both, one.states * two.states, letters),
            "brute meet", number);
 }
@@ -195,14 +203,16 @@ void large_pair(Chance& chance, std::size_t number)
     }
     word.resize(reply.length);
     const Machine one = second::read_record(pair.first);
-    const Machine two = second::read_record(pair.other);
+    // The services on one record know no blank.
+    const Bytes own = pair.other.empty() ? write_record(second::blank_machine(0, one.letters)) : pair.other;
+    const Machine two = second::read_record(own);
     Word expected;
     const bool differs = forward_difference(generate::direct_sum(one, two), expected);
     expect((reply.value != 0) == differs && word == expected, "forward difference", number);
     const bool first = second::test(pair.first, word).value == 1;
-    const bool other = second::test(pair.other, word).value == 1;
+    const bool other = second::test(own, word).value == 1;
     expect(!differs || (first != other && first == (reply.value == 1)), "who accepts the word", number);
-    expect(differs == (bytes_of(second::minimal, pair.first) != bytes_of(second::minimal, pair.other)),
+    expect(differs == (bytes_of(second::minimal, pair.first) != bytes_of(second::minimal, own)),
            "same language, same minimal record", number);
     const Machine hidden = generate::rebased(chance, one);
     expect(bytes_of(second::minimal, write_record(hidden)) == bytes_of(second::minimal, pair.first),

@@ -84,8 +84,8 @@ void service_refusals()
     Bytes out(2000, 0);
     const Bytes one_letter = fields(0, 1, {0, 0});
     expect(is_refusal(second::sum(one_letter, nothing, out), 8, 2, 6), "row 8");
-    expect(is_refusal(second::compare({}, {}, out), 1, 1, 0), "first record first");
-    expect(is_refusal(second::compare(nothing, {}, out), 1, 2, 0), "second record");
+    expect(is_refusal(second::compare({0}, {0, 0}, out), 1, 1, 1), "first record first");
+    expect(is_refusal(second::compare(nothing, {0}, out), 1, 2, 1), "second record");
     expect(is_refusal(second::test(nothing, {0, 2}), 9, 1, 1), "row 9");
     expect(is_refusal(second::meet(power(0, 8, 1), power(0, 7, 1), out), 10, 0, 72), "row 10");
     expect(is_refusal(second::sum(power(0, 20, 2), power(1, 20, 2), out), 11, 0, 40), "row 11");
@@ -98,6 +98,34 @@ void service_refusals()
     expect(is_refusal(second::compare(everything, x12, none), 12, 0, 2), "row 12 of a comparison");
     expect(second::compare(everything, nothing, none).value == 1, "an empty word needs no bytes");
     expect(second::compare(x_minimal, x12, none).number == 0, "the same needs no bytes");
+}
+
+// A second record of 0 bytes: the first record's own refusals, then what the record with no states gives over the same letters.
+void blanks()
+{
+    const Bytes blank;
+    for (const auto service : {second::compare, second::sum, second::meet}) {
+        expect(is_refusal(reply_of(service, blank, blank), 1, 1, 0), "both of 0 bytes");
+        expect(is_refusal(reply_of(service, blank, x12), 1, 1, 0), "the first of 0 bytes");
+        expect(is_refusal(reply_of(service, fields(1, 1, {2, 0, 0}), blank), 7, 1, 7), "a refused first before a blank");
+        for (std::size_t length = 1; length < 7; ++length) {
+            expect(is_refusal(reply_of(service, x12, Bytes(length, 0x4E)), 1, 2, length), "a second of 1 to 6 bytes", length);
+        }
+    }
+    for (std::uint8_t letters = 1; letters <= 8; ++letters) {
+        const Bytes word(3, static_cast<std::uint8_t>(letters - 1));
+        const Bytes first = power(letters - 1, 3, letters);
+        const Bytes none = fields(0, letters, {0, 0});
+        expect(bytes_of(second::compare, first, blank) == word && reply_of(second::compare, first, blank).value == 1,
+               "compared with a blank", letters);
+        expect(reply_of(second::compare, none, blank).number == 0 && reply_of(second::compare, none, blank).value == 0,
+               "nothing is the same as a blank", letters);
+        expect(bytes_of(second::sum, first, blank) == first, "the sum with a blank", letters);
+        expect(bytes_of(second::meet, first, blank) == none, "the meet with a blank", letters);
+        Bytes shorter(14, 7);
+        expect(is_refusal(second::meet(first, blank, shorter), 12, 0, 15) && shorter == Bytes(14, 7), "row 12 with a blank", letters);
+    }
+    expect(bytes_of(second::sum, x12, blank) == x_minimal, "X and a blank");
 }
 
 void catalogue_samples()
@@ -161,7 +189,15 @@ void marking_samples()
     const std::string sample = "0 key dim 2\n1 same dim 2\n2 differ dim 1 word 00 accepted-by answer\n";
     const Bytes script = joined({catalogue(4), x12, catalogue(1)});
     expect(second::mark_program(script) == sample, "the script of 01");
-    expect(second::mark_program({}) == "0 refused 1 0\n", "no key");
+    expect(second::mark_program({}).empty(), "a script of 0 bytes has no lines");
+    for (std::size_t index : {std::size_t{0}, std::size_t{1}, SIZE_MAX}) {
+        Bytes none;
+        const Reply reply = second::mark({}, index, none);
+        expect(reply.number == 0 && reply.length == 0 && reply.value == 0, "a script of 0 bytes refuses nothing", index);
+    }
+    for (std::size_t size = 1; size < 7; ++size) {
+        expect(second::mark_program(Bytes(size, 0x4E)) == "0 refused 1 " + std::to_string(size) + "\n", "a script of 1 to 6 bytes", size);
+    }
     expect(second::mark_program(Bytes(65536, 0x4E)) == "0 refused 2 1\n", "65,536 bytes");
     expect(second::mark_program(Bytes(65537, 0x4E)) == "too long\n", "65,537 bytes");
     const Bytes stray = fields(1, 2, {1, 2, 0, 0});
@@ -191,6 +227,7 @@ void all_samples()
 {
     record_refusals();
     service_refusals();
+    blanks();
     catalogue_samples();
     language_samples();
     marking_samples();
