@@ -59,8 +59,19 @@ void refusals(Run& run)
     }
 }
 
+// A second record of 0 bytes, refused first records before the others; a first one is refused whatever the second is.
+void blanks(Run& run)
+{
+    for (const Bytes& record : drive::records_before_a_blank()) {
+        run.two_blank("compare", nxa_compare, second::compare, record);
+        one_size(run, {}, record, 0);
+        one_size(run, {}, record, 64);
+    }
+}
+
 void fixed_cases(Run& run)
 {
+    blanks(run);
     for (const Bytes& record : drive::boundary_records()) {
         every_size(run, record, drive::nothing(8));
     }
@@ -86,6 +97,9 @@ void random_case(Run& run, Chance& chance)
     const auto answer = run.two("compare", nxa_compare, second::compare, pair.first, pair.other, 63);
     if (sized) {
         one_size(run, pair.first, pair.other, generate::buffer_size(chance, answer.reply.length));
+    }
+    if (pair.other.empty()) {
+        run.two_blank("compare", nxa_compare, second::compare, pair.first);
     }
 }
 

@@ -94,6 +94,34 @@ void refusals(Run& run)
     }
 }
 
+// The line that must come, whatever the second program says: with too short a buffer row 12, and past the last line no bytes.
+void expect_text(Run& run, const Bytes& script, std::size_t index, std::size_t lent, const std::string& text)
+{
+    const drive::Answer answer = run.mark(nxa_mark, script, index, lent);
+    const bool fits = text.size() <= lent;
+    const Bytes written = fits ? Bytes(text.begin(), text.end()) : Bytes{};
+    run.law(answer.reply.number == (fits ? 0u : 12u) && answer.reply.place == (fits ? 0 : text.size()) && answer.written() == written,
+            "the lines of a short script", {script});
+}
+
+// A script of 0 bytes has no lines, so that no index and no buffer is refused; one of 1 to 6 bytes has one, the refusal of its key.
+void short_scripts(Run& run)
+{
+    const Bytes record = drive::nothing(2);
+    for (std::size_t size = 0; size < 7; ++size) {
+        const Bytes head(record.begin(), record.begin() + static_cast<std::ptrdiff_t>(size));
+        const std::string line = size == 0 ? "" : "0 refused 1 " + std::to_string(size) + "\n";
+        for (const Bytes& script : {head, Bytes(size, 0), Bytes(size, 0xFF)}) {
+            thorough(run, script);
+            for (std::size_t index : {std::size_t{0}, std::size_t{1}, std::size_t{2}, std::size_t{4370}, SIZE_MAX}) {
+                for (std::size_t lent : {0, 1, 160}) {
+                    expect_text(run, script, index, lent, index == 0 ? line : "");
+                }
+            }
+        }
+    }
+}
+
 // A script of so many bytes that holds as many empty records as fit, and then a cut one.
 Bytes empty_records(std::size_t size)
 {
@@ -155,7 +183,7 @@ void random_case(Run& run, Chance& chance)
 int main(int argc, char** argv)
 {
     Run run("mark", argc, argv);
-    thorough(run, {});
+    short_scripts(run);
     near_sample(run);
     refusals(run);
     limits(run);

@@ -45,6 +45,12 @@ bool agree(const Answer& one, const Answer& two)
     return !granted(one) || !granted(two) || one.written() == two.written();
 }
 
+void blank(Run& run, const Bytes& first)
+{
+    run.two_blank("sum", nxa_sum, second::sum, first);
+    run.two_blank("meet", nxa_meet, second::meet, first);
+}
+
 void laws_of_one(Run& run, const Bytes& record)
 {
     const Answer own = minimal(run, record);
@@ -57,6 +63,8 @@ void laws_of_one(Run& run, const Bytes& record)
     run.law(granted(square) == (own.reply.value <= 8) && agree(square, own), "A met with A is A", inputs);
     run.law(sum(run, record, record).written() == nothing, "A and A sum to nothing", inputs);
     run.law(sum(run, record, nothing).written() == own.written(), "A and nothing sum to A", inputs);
+    run.law(sum(run, record, {}).written() == own.written(), "A and a blank sum to A", inputs);
+    run.law(meet(run, record, {}).written() == nothing, "A met with a blank is nothing", inputs);
     const Answer backward = mirror(run, record);
     run.law(backward.reply.length == own.reply.length, "the mirror keeps the dimension", inputs);
     run.law(mirror(run, backward.written()).written() == own.written(), "mirrored twice is A", inputs);
@@ -118,6 +126,18 @@ void limits(Run& run)
     every_size(run, drive::power(0, 20, 2), drive::power(1, 20, 2));
 }
 
+// A second record of 0 bytes, refused first records before the others; a first one is refused whatever the second is.
+void blanks(Run& run)
+{
+    for (const Bytes& record : drive::records_before_a_blank()) {
+        blank(run, record);
+        for (std::size_t size : {std::size_t{0}, drive::ample}) {
+            sum(run, {}, record, size);
+            meet(run, {}, record, size);
+        }
+    }
+}
+
 void refusals(Run& run)
 {
     std::vector<Bytes> records = drive::refused_records();
@@ -150,6 +170,7 @@ void samples(Run& run)
 
 void fixed_cases(Run& run)
 {
+    blanks(run);
     samples(run);
     limits(run);
     refusals(run);
@@ -183,6 +204,9 @@ void random_case(Run& run, Chance& chance)
     case 5: {
         const generate::Pair pair = generate::any_pair(chance, chance.one_in(2) ? 16 : 32);
         with_size(run, chance, sum, pair.first, pair.other);
+        if (pair.other.empty()) {
+            blank(run, pair.first);
+        }
         break;
     }
     case 6: {

@@ -1,5 +1,5 @@
-// Driver: the program `mark` on random scripts, whole and damaged, that arrive in pieces; its text against the second program's, and
-// against the lines of the marking service.
+// Driver: the program `mark` on scripts of 0 to 6 bytes and on random ones, whole and damaged, that arrive in pieces; its text against
+// the second program's, and against the lines of the marking service.
 //
 //   drive_program PROGRAM SEED COUNT
 #include <cerrno>
@@ -102,6 +102,14 @@ std::string lines(const Bytes& script)
     }
 }
 
+// Whether the program and the service give the text of the second program; for a script of 0 bytes none at all.
+bool agrees(const char* program, Bytes script, Chance& chance)
+{
+    script.reserve(script.size() + 1);  // a pointer that is not null, also for a script of 0 bytes
+    const std::string wanted = second::mark_program(script);
+    return script.empty() == wanted.empty() && printed(program, script, chance) == wanted && lines(script) == wanted;
+}
+
 }  // namespace
 
 int main(int argc, char** argv)
@@ -113,16 +121,21 @@ int main(int argc, char** argv)
     std::signal(SIGPIPE, SIG_IGN);
     const std::uint64_t seed = std::strtoull(argv[2], nullptr, 10);
     const std::size_t count = std::strtoull(argv[3], nullptr, 10);
+    Chance pieces(seed);
+    const std::size_t fixed = 7;
+    for (std::size_t size = 0; size < fixed; ++size) {
+        if (!agrees(argv[1], Bytes(size, 0x4E), pieces)) {
+            std::printf("program: %zu bytes 4E: another text\n", size);
+            return 1;
+        }
+    }
     for (std::size_t number = 0; number < count; ++number) {
         Chance chance = generate::chance_of(seed, number);
-        Bytes script = generate::script(chance);
-        script.reserve(script.size() + 1);  // a pointer that is not null, also for a script of 0 bytes
-        const std::string wanted = second::mark_program(script);
-        if (printed(argv[1], script, chance) != wanted || lines(script) != wanted) {
+        if (!agrees(argv[1], generate::script(chance), chance)) {
             std::printf("program: seed %s, script %zu: another text\n", argv[2], number);
             return 1;
         }
     }
-    std::printf("program: %zu scripts agree\n", count);
+    std::printf("program: %zu scripts agree\n", fixed + count);
     return 0;
 }

@@ -219,6 +219,21 @@ void Run::two_sizes(const char* service, TwoService desk, SecondTwo expected, co
     }
 }
 
+void Run::two_blank(const char* service, TwoService desk, SecondTwo expected, const Bytes& first)
+{
+    // A refused first record may have any number there, or none: the second is not looked at then.
+    const std::size_t letters = first.size() > 6 ? first[6] : 1;
+    const Bytes blank, record = second::write_record(second::blank_machine(0, letters));
+    const std::size_t needed = two(service, desk, expected, first, blank, ample).reply.length;
+    for (std::size_t size : {std::size_t{0}, needed == 0 ? 0 : needed - 1, needed, needed + 1, ample}) {
+        const Chance filling = filling_;
+        const Answer got = two(service, desk, expected, first, blank, size);
+        filling_ = filling;   // the same old bytes once more
+        const Answer wanted = two(service, desk, expected, first, record, size);
+        law(equal(got.reply, wanted.reply) && got.buffer == wanted.buffer, "a blank is the record with no states", {first});
+    }
+}
+
 void Run::law(bool holds, const char* what, const std::vector<Bytes>& inputs)
 {
     if (!holds) {

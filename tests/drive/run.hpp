@@ -76,6 +76,10 @@ public:
     void two_sizes(const char* service, TwoService desk, SecondTwo expected, const Bytes& first,
                    const Bytes& other);
 
+    // A second record of 0 bytes, a blank, with every such size; and the law of it: the answer and the whole buffer are those for the
+    // record with no states over the first one's letters.
+    void two_blank(const char* service, TwoService desk, SecondTwo expected, const Bytes& first);
+
     // A law among answers of the desk; the inputs are shown when it fails.
     void law(bool holds, const char* what, const std::vector<Bytes>& inputs);
 

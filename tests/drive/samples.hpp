@@ -108,6 +108,27 @@ inline std::vector<second::Bytes> smallest_records()
     return records;
 }
 
+// A few records over each number of letters: none, one and all of the states, one word, and words of any length.
+inline std::vector<second::Bytes> records_over_all_letters()
+{
+    std::vector<second::Bytes> records;
+    for (std::size_t a = 1; a <= second::most_letters; ++a) {
+        records.insert(records.end(), {nothing(a), uniform(1, a, 1), uniform(31, a, 0x7FFFFFFFu), uniform(32, a, 0xFFFFFFFFu),
+                                       power(a - 1, 0, a), power(a - 1, 3, a), power(a - 1, 31, a)});
+    }
+    return records;
+}
+
+// First records of every kind, for a second record of 0 bytes: each refused one, one of 0 bytes among them, before the well formed.
+inline std::vector<second::Bytes> records_before_a_blank()
+{
+    std::vector<second::Bytes> records = refused_records();
+    for (const auto& more : {boundary_records(), sample_records(), smallest_records(), records_over_all_letters()}) {
+        records.insert(records.end(), more.begin(), more.end());
+    }
+    return records;
+}
+
 }  // namespace drive
 
 #endif
