@@ -122,11 +122,11 @@ Bytes disguised(Source& source, const Bytes& record)
     return second::write_record(generate::disguised(chance, machine, machine.states + more));
 }
 
-// A second record for the first: a stranger over any letters or over the same, the same language, or almost.
+// A second record for the first: a stranger over any letters or over the same, the same language, or almost, or a blank.
 Bytes other_record(Source& source, const Bytes& first)
 {
     const std::size_t same = first.size() > 6 && first[6] >= 1 && first[6] <= second::most_letters ? first[6] : 1;
-    switch (source.below(6)) {
+    switch (source.below(7)) {
     case 0:
         return any_record(source, letter_count(source));
     case 1:
@@ -135,6 +135,8 @@ Bytes other_record(Source& source, const Bytes& first)
         return disguised(source, damaged(source, first));
     case 3:
         return first;
+    case 4:
+        return {};
     default:
         return any_record(source, same);
     }

@@ -23,7 +23,7 @@ typedef struct {
     size_t number;                   /* of the catalogue's entry, or of the record in a script */
 } request;
 
-static record dense, sparse, cycle, single, other_single, two_states, wide_two, full, nothing, cut_short, stray;
+static record dense, sparse, cycle, single, other_single, two_states, wide_two, full, nothing, cut_short, stray, blank;
 static uint8_t word[WORD_LENGTH];
 static uint8_t script[SCRIPT_MAX];
 
@@ -84,6 +84,7 @@ static void make_inputs(void)
     cut_short = cut(dense, NXA_RECORD_MAX - 1);
     stray = uniform(31, NXA_LETTERS_MAX, 0);
     stray = changed(stray, stray.length - 1, 0x80);
+    blank = cut(nothing, 0);   /* as a second record the machine with no states; as a first one refused */
     for (i = 0; i < WORD_LENGTH; i++) {
         word[i] = (uint8_t)(random_row() % NXA_LETTERS_MAX);
     }
@@ -157,7 +158,7 @@ static const service services[] = {
 
 /* ---- the requests of a service */
 
-#define REQUESTS_MAX 128
+#define REQUESTS_MAX 144
 
 typedef struct {
     request each[REQUESTS_MAX];
@@ -177,7 +178,7 @@ static void ask(requests *all, const uint8_t *first, size_t first_len, const uin
 static void ask_records(requests *all, inputs of)
 {
     const record *const records[] = {&dense,    &sparse, &cycle,   &single,    &other_single, &two_states,
-                                     &wide_two, &full,   &nothing, &cut_short, &stray};
+                                     &wide_two, &full,   &nothing, &cut_short, &stray,        &blank};
     const size_t count = sizeof records / sizeof records[0];
     size_t i, j;
     for (i = 0; i < count; i++) {

@@ -217,6 +217,29 @@ void refusals(Book& book)
     }
 }
 
+// A second record of 0 bytes after each refused first record and after small ones over every number of letters, with short and exact
+// buffers; one of 1 to 6 bytes; a first record of 0 bytes.
+void blanks(Book& book)
+{
+    std::vector<Bytes> firsts = {drive::x12(), drive::zeros(), drive::even_paths(), drive::seven_cycle(), drive::power(0, 31, 1)};
+    for (std::size_t letters = 1; letters <= second::most_letters; ++letters) {
+        firsts.insert(firsts.end(), {drive::nothing(letters), drive::uniform(1, letters, 1), drive::power(letters - 1, 3, letters)});
+    }
+    for (const TwoService& service : two_services) {
+        for (const Bytes& first : drive::refused_records()) {
+            book.two(service.name, service.expected, first, Bytes{}, 0);
+        }
+        for (const Bytes& first : firsts) {
+            two_sizes(book, service, first, Bytes{});
+        }
+        for (std::size_t length = 1; length < 7; ++length) {
+            book.two(service.name, service.expected, drive::x12(), Bytes(length, 0x4E));
+        }
+        book.two(service.name, service.expected, Bytes{}, drive::x12());
+        book.two(service.name, service.expected, Bytes{}, Bytes{});
+    }
+}
+
 void catalogue(Book& book)
 {
     for (std::size_t number = 0; number < 8; ++number) {
@@ -323,13 +346,23 @@ void refused_scripts(Book& book)
     }
 }
 
+// A script of 0 bytes has no lines, one of 1 to 6 bytes the refusal of its key.
+void short_scripts(Book& book)
+{
+    for (std::size_t size = 0; size < 7; ++size) {
+        for (std::size_t index : {std::size_t{0}, std::size_t{1}, std::size_t{2}, std::size_t{4370}, SIZE_MAX}) {
+            mark_sizes(book, Bytes(size, 0x4E), index);
+        }
+    }
+}
+
 void scripts(Book& book)
 {
     const Bytes sample = script_of({drive::catalogue_record(4), drive::x12(), drive::catalogue_record(1)});
     for (std::size_t index = 0; index < 4; ++index) {
         mark_sizes(book, sample, index);
     }
-    every_line(book, Bytes{}, 1);
+    short_scripts(book);
     refused_scripts(book);
     // 65,536 bytes and one more or fewer, in records of no states: 15 bytes each, 4,369 of them and one byte over.
     const Bytes none = drive::nothing(2);
@@ -453,6 +486,7 @@ int main(int argc, char** argv)
     Chance chance(seed);
     samples(book);
     refusals(book);
+    blanks(book);
     catalogue(book);
     largest(book, chance);
     longest_words(book);
