@@ -1,5 +1,6 @@
 #!/usr/bin/env python3
-"""The program that marks where reading or writing fails: a line on standard error says so, and what was printed is no finished marking.
+"""The program that marks where reading or writing fails: a line on standard error says so, and what was printed is no finished marking. An
+empty input is no failure.
 
     failures.py PROGRAM SHELL-SCRIPT INTERRUPT.SO DATA
 
@@ -108,6 +109,12 @@ class Desk:
         os.close(in_end)
         return process
 
+    def empty(self):
+        """A script of 0 bytes has no lines, and this is no failure: nothing is printed and nothing told."""
+        with open("/dev/null", "rb") as nothing:
+            self.told("an empty file", self.start(stdin=nothing), "")
+        self.told("a pipe that ends at once", self.send(b""), "")
+
     def goes_on(self, interrupt):
         """What is slow, partial or interrupted goes on, to the whole text."""
         script = self.long.read_bytes()
@@ -132,6 +139,7 @@ def main():
         desk = Desk(command, is_shell, data)
         desk.inputs()
         desk.outputs()
+        desk.empty()
         desk.goes_on(interrupt)
         count += desk.count
     print(f"failures: {count} cases are told as they must be")
