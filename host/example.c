@@ -1,7 +1,7 @@
 /* A small host: says what the desk finds of a record, of two records, or of a script. FILE - is standard input.
  *
  *   example [FILE [WORD..]]      a record: check, minimal record, operations, tests of words in digits, the empty word as -
- *   example -c FIRST SECOND      two records: the same words, or the first word that tells them apart
+ *   example -c FIRST SECOND      two records: the same words, or the first word that tells them apart; an empty SECOND is a blank
  *   example -m SCRIPT            a script: one line for each record
  */
 #include <stdio.h>

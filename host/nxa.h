@@ -5,6 +5,9 @@
  * worth 2^j, stands for state j. A word is one byte per letter, the letters being 0 to a-1. A record accepts a word when the number
  * of paths along it, from a state of I to a state of F, is odd.
  *
+ * In the services on two records (compare, sum and meet) a second record of 0 bytes, a blank, means the machine with no states over the
+ * first one's letters, which accepts no word. A blank is never refused. A first or only record of 0 bytes is refused 1, place 0.
+ *
  * What a service is given: numbers, and slices of bytes as a pointer and a length.
  * What it gives back: an nxa_reply. Number NXA_GRANTED (0) says that it did its work. Any other number is a refusal; it comes with the
  * record it is about (1 or 2; 0 where none is named) and a place, and then the lent buffer is left exactly as it was. Fields that a
@@ -45,7 +48,7 @@ extern "C" {
 
 /* The numbers of a reply, with the place that each refusal gives. */
 #define NXA_GRANTED 0        /* no refusal */
-#define NXA_TOO_SHORT 1      /* fewer than 7 bytes: the record's length */
+#define NXA_TOO_SHORT 1      /* fewer than 7 bytes, of a second record 1 to 6: the record's length */
 #define NXA_WRONG_MARK 2     /* wrong mark: offset of the first wrong byte, 0 to 2 */
 #define NXA_WRONG_VERSION 3  /* version not 1: 3 */
 #define NXA_STATES 4         /* n over 32: 5 */
@@ -120,27 +123,34 @@ nxa_reply nxa_minimal(const uint8_t *record, size_t record_len, uint8_t *out, si
 
 /* Compares two records over the same letters: do they accept the same words, of whatever length?
  *
- * Reads:    both records.
+ * Reads:    both records; a second one of 0 bytes is a blank.
  * Writes:   where they differ, the first word in prefix order (shorter words first, equal lengths by the first differing letter) that
  *           just one of them accepts, one letter per byte, length bytes.
  * Granted:  value 0: the same words, length 0. Value 1 or 2: the record that accepts the word, length its letters, 0 to 63.
- * Refused:  1 to 7, record 1; 1 to 7, record 2; 8, record 2, place 6; then, only where they differ, 12, record 0, place the letters of
- *           the word. A refusal of the first record is the whole answer. NXA_WORD_MAX bytes are always enough.
+ * Refused:  1 to 7, record 1; 1 to 7, record 2, where 1 needs 1 to 6 bytes; 8, record 2, place 6; then, only where they differ, 12,
+ *           record 0, place the letters of the word. A refusal of the first record is the whole answer. NXA_WORD_MAX bytes are always
+ *           enough.
  *
  *   uint8_t word[NXA_WORD_MAX];
  *   nxa_reply r = nxa_compare(key, key_count, answer, answer_count, word, sizeof word);
  *   if (r.number == NXA_GRANTED && r.value == 0) puts("same");
+ *
+ * For an answer that was left empty, with a blank: value 0 where the key accepts no word, else the first word that the key accepts. The
+ * pointer must be valid, also for 0 bytes:
+ *
+ *   r = nxa_compare(key, key_count, key, 0, word, sizeof word);
  */
 nxa_reply nxa_compare(const uint8_t *first, size_t first_len, const uint8_t *second, size_t second_len, uint8_t *word,
                       size_t word_len);
 
 /* Writes the minimal record of the sum of two records over the same letters: the words that just one of them accepts.
  *
- * Reads:    both records.
+ * Reads:    both records; a second one of 0 bytes is a blank, and the sum then has the first one's words.
  * Writes:   the minimal record of the sum, length bytes.
  * Granted:  length is 15 + 4*a*d for a sum of dimension d, value 0.
- * Refused:  1 to 7, record 1; 1 to 7, record 2; 8, record 2, place 6; 11, record 0, place the dimension, 33 to 64; then 12, record 0,
- *           place the bytes needed. A refusal of the first record is the whole answer. NXA_RECORD_MAX bytes are always enough.
+ * Refused:  1 to 7, record 1; 1 to 7, record 2, where 1 needs 1 to 6 bytes; 8, record 2, place 6; 11, record 0, place the dimension,
+ *           33 to 64; then 12, record 0, place the bytes needed. A refusal of the first record is the whole answer. NXA_RECORD_MAX bytes
+ *           are always enough.
  *
  *   uint8_t out[NXA_RECORD_MAX];
  *   nxa_reply r = nxa_sum(key, key_count, answer, answer_count, out, sizeof out);
@@ -149,12 +159,12 @@ nxa_reply nxa_sum(const uint8_t *first, size_t first_len, const uint8_t *second,
 
 /* Writes the minimal record of the meet of two records over the same letters: the words that both accept.
  *
- * Reads:    both records.
+ * Reads:    both records; a second one of 0 bytes is a blank, and the meet then has no words.
  * Writes:   the minimal record of the meet, length bytes.
  * Granted:  length is 15 + 4*a*d for a meet of dimension d, value 0.
- * Refused:  1 to 7, record 1; 1 to 7, record 2; 8, record 2, place 6; 10, record 0, place the product of the dimensions of the two
- *           languages, which is over 64, however few words they share; 11, record 0, place the dimension, 33 to 64; then 12,
- *           record 0, place the bytes needed. A refusal of the first record is the whole answer.
+ * Refused:  1 to 7, record 1; 1 to 7, record 2, where 1 needs 1 to 6 bytes; 8, record 2, place 6; 10, record 0, place the product of
+ *           the dimensions of the two languages, which is over 64, however few words they share; 11, record 0, place the dimension, 33
+ *           to 64; then 12, record 0, place the bytes needed. A refusal of the first record is the whole answer.
  *
  *   uint8_t out[NXA_RECORD_MAX];
  *   nxa_reply r = nxa_meet(first, first_count, second, second_count, out, sizeof out);
@@ -210,11 +220,12 @@ nxa_reply nxa_catalogue(size_t number, uint8_t *out, size_t out_len);
  *             3 refused 7 15                               a record's own refusal, number and place
  *             too long                                     line 0 of a longer script, and its only one
  *           Marking ends with the last record, after a refusal 1 to 6, and after any refusal of the key; after 7 or 8 of an answer it
- *           goes on. A script of no bytes has the line `0 refused 1 0`.
+ *           goes on. A script of 0 bytes has no lines; one of 1 to 6 bytes, say 3, has the line `0 refused 1 3`.
  * Granted:  length is that of the line, 0 where there is none; value 0.
  * Refused:  12, record 0, place the bytes needed. NXA_LINE_MAX bytes are always enough.
  *
  * Each call walks the script up to the record asked for. To mark a whole script, ask for index 0, 1, 2 and so on until length is 0.
+ * No script can hold a blank: an answer of 0 bytes adds nothing to it. nxa_compare takes one.
  *
  *   uint8_t line[NXA_LINE_MAX];
  *   size_t i;

@@ -10,6 +10,13 @@ service writes comes back as bytes. Where the desk refuses, a function raises Re
     >>> nxa.compare(x, nxa.catalogue(1))
     Comparison(same=False, word=b'\\x00\\x00', accepted_by=2)
 
+A second record of 0 bytes, a blank, means the machine with no states over the first one's letters:
+
+    >>> nxa.compare(nxa.catalogue(3), b"")
+    Comparison(same=False, word=b'\\x01', accepted_by=1)
+    >>> nxa.compare(nxa.catalogue(0), b"").same
+    True
+
 The shared object is the file that the environment variable NXA_LIBRARY names, or else libnxa.so.1 where the loader finds it.
 `make -C host shared` makes it and `make -C host install` installs it. The rules of each service stand in nxa.h.
 """
@@ -174,18 +181,18 @@ def minimal(record: Bytes, room: int = RECORD_MAX) -> Minimal:
 
 
 def compare(first: Bytes, second: Bytes, room: int = WORD_MAX) -> Comparison:
-    """Compares the words that two records over the same letters accept. Refused 1 to 8, 12."""
+    """Compares the words that two records over the same letters accept; the second may be a blank. Refused 1 to 8, 12."""
     reply, word = _written(_compare, _slices(_bytes(first), _bytes(second)), room)
     return Comparison(True, None, None) if reply.value == 0 else Comparison(False, word, reply.value)
 
 
 def sum(first: Bytes, second: Bytes, room: int = RECORD_MAX) -> bytes:
-    """Gives the minimal record of the words that just one of two records accepts. Refused 1 to 8, 11, 12."""
+    """Gives the minimal record of the words that just one of two records accepts; the second may be a blank. Refused 1 to 8, 11, 12."""
     return _written(_sum, _slices(_bytes(first), _bytes(second)), room)[1]
 
 
 def meet(first: Bytes, second: Bytes, room: int = RECORD_MAX) -> bytes:
-    """Gives the minimal record of the words that both records accept. Refused 1 to 8, 10, 11, 12."""
+    """Gives the minimal record of the words that both records accept; the second may be a blank. Refused 1 to 8, 10, 11, 12."""
     return _written(_meet, _slices(_bytes(first), _bytes(second)), room)[1]
 
 
@@ -218,7 +225,8 @@ def mark_line(script: Bytes, index: int, room: Optional[int] = None) -> Optional
 
 
 def mark(script: Bytes) -> List[str]:
-    """Marks a script, a key record and then answers, end to end: a line for each record, as the marking program prints them."""
+    """Marks a script, a key record and then answers, end to end: a line for each record, as the marking program prints them. A script
+    of 0 bytes has no lines."""
     lines: List[str] = []
     while (line := mark_line(script, len(lines))) is not None:
         lines.append(line)

@@ -107,12 +107,29 @@ static void refusals(void)
     }
 }
 
-/* A missing key, and a key with each refusal: nothing is marked after it. */
+/* A script of 0 bytes has no lines, one of 1 to 6 bytes the refusal of its key. */
+static void short_scripts(void)
+{
+    static const char *const lines[6] = {"0 refused 1 1\n", "0 refused 1 2\n", "0 refused 1 3\n",
+                                         "0 refused 1 4\n", "0 refused 1 5\n", "0 refused 1 6\n"};
+    size_t length;
+    start();
+    for (length = 0; length < 4; length++) {
+        expect_end("no bytes", length);
+    }
+    expect_end("no bytes", 4370);
+    for (length = 1; length < 7; length++) {
+        start();
+        put(cut(x(), length));
+        expect_line("1 to 6 bytes", 0, lines[length - 1]);
+        expect_end("1 to 6 bytes", 1);
+    }
+}
+
+/* A key that is refused: nothing is marked after it. */
 static void keys(void)
 {
     start();
-    expect_line("no bytes", 0, "0 refused 1 0\n");
-    expect_end("no bytes", 1);
     put(uniform(1, 2, 2));
     put(x());
     expect_line("stray bit in the key", 0, "0 refused 7 7\n");
@@ -146,6 +163,7 @@ void test_mark(void)
     sample();
     verdicts();
     refusals();
+    short_scripts();
     keys();
     sizes();
 }

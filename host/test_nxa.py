@@ -121,7 +121,8 @@ class Refusals(Desk):
                 self.refused(number, 1, place, service, bad)
             for service in self.TWO:
                 self.refused(number, 1, place, service, bad, b"")
-                self.refused(number, 2, place, service, X, bad)
+                if bad:  # else a blank
+                    self.refused(number, 2, place, service, X, bad)
 
     def test_8_unlike_letters(self):
         for service in self.TWO:
@@ -149,6 +150,30 @@ class Refusals(Desk):
         self.assertIn("unknown", str(nxa.Refused(99, 0, 0)))
 
 
+class Blanks(Desk):
+    """A second record of 0 bytes is the machine with no states over the first one's letters."""
+
+    def test_same_as_no_states(self):
+        for letters in range(1, 9):
+            nothing = record(0, letters, 0, 0)
+            for first in (nothing, uniform(1, letters, 1), uniform(32, letters, 0xFFFFFFFF), power(letters - 1, 31, letters)):
+                for blank in (b"", bytearray(), memoryview(b"")):
+                    for service in (nxa.compare, nxa.sum, nxa.meet):
+                        self.assertEqual(service(first, blank), service(first, nothing))
+
+    def test_words(self):
+        self.assertEqual(nxa.compare(NOTHING, b""), nxa.Comparison(True, None, None))
+        self.assertEqual(nxa.compare(X, b""), nxa.Comparison(False, b"", 1))
+        self.assertEqual(nxa.compare(power(7, 31, 8), b""), nxa.Comparison(False, b"\7" * 31, 1))
+        self.assertEqual(nxa.sum(X12, b""), X)
+        self.assertEqual(nxa.meet(X12, b""), NOTHING)
+
+    def test_first_is_none(self):
+        for service in (nxa.compare, nxa.sum, nxa.meet):
+            self.refused(1, 1, 0, service, b"", b"")
+            self.refused(1, 1, 0, service, b"", X)
+
+
 class Rooms(Desk):
     """Row 12: every size of buffer up to one byte more than is needed, and the largest results."""
 
@@ -164,6 +189,8 @@ class Rooms(Desk):
         self.rooms(nxa.minimal, X12, needed=31)
         self.rooms(nxa.sum, X, EVERYTHING, needed=39)
         self.rooms(nxa.meet, X, EVERYTHING, needed=31)
+        self.rooms(nxa.sum, X12, b"", needed=31)
+        self.rooms(nxa.meet, X12, b"", needed=15)
         self.rooms(nxa.complement, X, needed=39)
         self.rooms(nxa.mirror, X, needed=31)
         self.rooms(nxa.catalogue, 4, needed=31)
@@ -173,6 +200,8 @@ class Rooms(Desk):
         self.rooms(nxa.compare, power(0, 31, 1), record(0, 1, 0, 0), needed=31)
         self.rooms(nxa.compare, X, X12, needed=0)
         self.rooms(nxa.compare, EVERYTHING, NOTHING, needed=0)
+        self.rooms(nxa.compare, power(0, 31, 1), b"", needed=31)
+        self.rooms(nxa.compare, NOTHING, b"", needed=0)
 
     def test_largest(self):
         full = power(7, 31, 8)
@@ -216,8 +245,15 @@ class Marking(Desk):
         self.assertIsNone(nxa.mark_line(script, 3))
         self.assertIsNone(nxa.mark_line(script, nxa._SIZE_MAX))
 
+    def test_no_lines(self):
+        self.assertEqual(nxa.mark(b""), [])
+        for index in (0, 1, 2, 4370, nxa._SIZE_MAX):
+            for room in (0, 1, 160):
+                self.assertIsNone(nxa.mark_line(b"", index, room=room))
+
     def test_refused_lines(self):
-        self.assertEqual(nxa.mark(b""), ["0 refused 1 0"])
+        for length in range(1, 7):
+            self.assertEqual(nxa.mark(X[:length]), [f"0 refused 1 {length}"])
         self.assertEqual(nxa.mark(X + record(0, 1, 0, 0) + record(1, 2, 2, 0, 0, 0) + EMPTY_WORD + X[:9]),
                          ["0 key dim 2", "1 refused 8 6", "2 refused 7 7", "3 differ dim 1 word 0 accepted-by key", "4 refused 6 31"])
         self.assertEqual(nxa.mark(b"NXB" + X[3:] + X), ["0 refused 2 2"])

@@ -77,6 +77,21 @@ static void samples(void)
     gives(mirror, "only 0^31", power(31), nothing, power(31));
 }
 
+/* A second record of 0 bytes, a blank, is the machine with no states over the first one's letters. */
+static void blanks(void)
+{
+    unsigned a;
+    gives(sum, "X and a blank", x12(), cut(x12(), 0), x());
+    gives(meet, "X and a blank", x12(), cut(x12(), 0), uniform(0, 2, 0));
+    for (a = 1; a <= NXA_LETTERS_MAX; a++) {
+        const record largest = power_of(a - 1, 31, a), nothing = uniform(0, a, 0), blank = cut(largest, 0);
+        gives(sum, "32 states and a blank", largest, blank, largest);
+        gives(meet, "32 states and a blank", largest, blank, nothing);
+        gives(sum, "n = 0 and a blank", nothing, blank, nothing);
+        gives(meet, "n = 0 and a blank", nothing, blank, nothing);
+    }
+}
+
 /* Rows 10 and 11 at their limits; row 8 and the records' own rows come before them, row 12 after. */
 static void limits(void)
 {
@@ -91,19 +106,28 @@ static void limits(void)
     refuses(meet, "a = 2 and a = 1", power_of(0, 31, 2), power(31), refused(NXA_UNLIKE_LETTERS, 2, 6));
 }
 
-/* Rows 1 to 7 of the first record, then of the second. */
+/* Rows 1 to 7 of the first record, then of the second, where row 1 needs 1 to 6 bytes. */
 static void refusals(void)
 {
     static const operation pairs[2] = {{"sum", NULL, nxa_sum}, {"meet", NULL, nxa_meet}};
     static const operation singles[2] = {{"complement", nxa_complement, NULL}, {"mirror", nxa_mirror, NULL}};
     const record good = x12(), mark = changed(good, 2, 0x42), states = changed(good, 5, 33), stray = uniform(1, 2, 2);
+    const record empty = cut(good, 0);
+    size_t length;
     int i;
     for (i = 0; i < 2; i++) {
+        refuses(pairs[i], "both empty", empty, empty, refused(NXA_TOO_SHORT, 1, 0));
+        refuses(pairs[i], "first empty", empty, good, refused(NXA_TOO_SHORT, 1, 0));
+        refuses(pairs[i], "first mark, second empty", mark, empty, refused(NXA_WRONG_MARK, 1, 2));
+        refuses(pairs[i], "first stray bit, second empty", stray, empty, refused(NXA_STRAY_BIT, 1, 7));
+        for (length = 1; length < 7; length++) {
+            refuses(pairs[i], "second short", good, cut(good, length), refused(NXA_TOO_SHORT, 2, length));
+        }
         refuses(pairs[i], "first mark, second states", mark, states, refused(NXA_WRONG_MARK, 1, 2));
         refuses(pairs[i], "second states", good, states, refused(NXA_STATES, 2, 5));
         refuses(pairs[i], "second stray bit", good, stray, refused(NXA_STRAY_BIT, 2, 7));
         refuses(pairs[i], "second length", good, cut(good, 48), refused(NXA_WRONG_LENGTH, 2, 47));
-        refuses(singles[i], "no bytes", cut(good, 0), good, refused(NXA_TOO_SHORT, 1, 0));
+        refuses(singles[i], "no bytes", empty, good, refused(NXA_TOO_SHORT, 1, 0));
         refuses(singles[i], "mark 4E 58 42", mark, good, refused(NXA_WRONG_MARK, 1, 2));
         refuses(singles[i], "stray bit", stray, good, refused(NXA_STRAY_BIT, 1, 7));
     }
@@ -112,6 +136,7 @@ static void refusals(void)
 void test_operations(void)
 {
     samples();
+    blanks();
     limits();
     refusals();
 }

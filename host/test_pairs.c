@@ -52,13 +52,35 @@ static void expect_refused(const char *what, record first, record second, nxa_re
     compare_lent(what, &first, &second, NXA_WORD_MAX, none, want);
 }
 
+/* A second record of 0 bytes, a blank, gives what the record with no states over the first one's letters gives, with any buffer. */
+static void expect_blank(const char *what, record first, word_text word, size_t side)
+{
+    const record blank = cut(first, 0), nothing = uniform(0, first.bytes[6], 0);
+    size_t room;
+    for (room = 0; room <= NXA_WORD_MAX + 1; room++) {
+        const nxa_reply want = room < word.length ? refused(NXA_NO_ROOM, 0, word.length) : granted(word.length, side);
+        compare_lent(what, &first, &blank, room, word, want);
+        compare_lent(what, &first, &nothing, room, word, want);
+    }
+}
+
 /* Rows 1 to 7 of the first record, then of the second, then row 8; row 12 comes last. */
 static void refusals(void)
 {
     const record good = x12(), mark = changed(good, 2, 0x42), states = changed(good, 5, 33), longer = cut(good, 48);
     const record stray = uniform(1, 2, 2), empty = cut(good, 0), one = uniform(0, 1, 0);
+    size_t length;
     expect_refused("first empty", empty, good, refused(NXA_TOO_SHORT, 1, 0));
-    expect_refused("second empty", good, empty, refused(NXA_TOO_SHORT, 2, 0));
+    expect_refused("both empty", empty, empty, refused(NXA_TOO_SHORT, 1, 0));
+    for (length = 1; length < 7; length++) {
+        expect_refused("first short, second empty", cut(good, length), empty, refused(NXA_TOO_SHORT, 1, length));
+        expect_refused("second short", good, cut(good, length), refused(NXA_TOO_SHORT, 2, length));
+    }
+    expect_refused("first mark, second empty", mark, empty, refused(NXA_WRONG_MARK, 1, 2));
+    expect_refused("first version, second empty", changed(good, 3, 2), empty, refused(NXA_WRONG_VERSION, 1, 3));
+    expect_refused("first states, second empty", states, empty, refused(NXA_STATES, 1, 5));
+    expect_refused("first letters, second empty", changed(good, 6, 9), empty, refused(NXA_LETTERS, 1, 6));
+    expect_refused("first length, second empty", longer, empty, refused(NXA_WRONG_LENGTH, 1, 47));
     expect_refused("first mark, second states", mark, states, refused(NXA_WRONG_MARK, 1, 2));
     expect_refused("first states, second mark", states, mark, refused(NXA_STATES, 1, 5));
     expect_refused("second mark", good, mark, refused(NXA_WRONG_MARK, 2, 2));
@@ -67,7 +89,7 @@ static void refusals(void)
     expect_refused("second letters", good, changed(good, 6, 9), refused(NXA_LETTERS, 2, 6));
     expect_refused("second length", good, longer, refused(NXA_WRONG_LENGTH, 2, 47));
     expect_refused("second stray bit", good, stray, refused(NXA_STRAY_BIT, 2, 7));
-    expect_refused("first stray bit", stray, empty, refused(NXA_STRAY_BIT, 1, 7));
+    expect_refused("first stray bit, second empty", stray, empty, refused(NXA_STRAY_BIT, 1, 7));
     expect_refused("stray bit before unlike letters", one, stray, refused(NXA_STRAY_BIT, 2, 7));
     expect_refused("a = 1 and a = 2", one, good, refused(NXA_UNLIKE_LETTERS, 2, 6));
     expect_refused("a = 2 and a = 1", good, one, refused(NXA_UNLIKE_LETTERS, 2, 6));
@@ -91,8 +113,27 @@ static void words(void)
     expect_word("lengths 31 mod 32, and only 0^31", cycle, power(31), longest, 1);
 }
 
+/* A blank after records over every number of letters: it accepts no word. */
+static void blanks(void)
+{
+    static const char zeros[NXA_WORD_MAX + 1] = {0};
+    const word_text none = {"", 0}, thirty_one = {zeros, 31};
+    unsigned a;
+    expect_blank("X", x12(), none, 1);
+    expect_blank("only 0^31", power(31), thirty_one, 1);
+    for (a = 1; a <= NXA_LETTERS_MAX; a++) {
+        const char letter = (char)(a - 1), letters[3] = {letter, letter, letter};
+        const word_text three = {letters, 3};
+        expect_blank("n = 0", uniform(0, a, 0), none, 0);
+        expect_blank("n = 32, even everywhere", uniform(32, a, 0xFFFFFFFFu), none, 0);
+        expect_blank("all words", uniform(1, a, 1), none, 1);
+        expect_blank("only one word", power_of(a - 1, 3, a), three, 1);
+    }
+}
+
 void test_pairs(void)
 {
     refusals();
     words();
+    blanks();
 }
