@@ -3,6 +3,7 @@
 --   meetOf A B         the product automaton on pairs of states: accepts the intersection
 --   complementOf A     A beside one state that accepts every word
 --   mirrorOf A         the transpose, initial and final states exchanged: accepts the reversal
+--   stateless          the automaton with no states: accepts no word
 use mathlib.Core.Bool.{true, false, _&&_, cond}
 use Prim.Native.Nat.{ℕ, _+_, _-_, _*_, _/_, _%_}
 use lib.Dec.{ltb}
@@ -19,6 +20,9 @@ sumOf A B = record {
   final = joined (A .states) (A .final) (B .final);
   step = λ l. joined (A .states) (λ i. joined (A .states) (A .step l i) (λ j. false)) (λ i. joined (A .states) (λ j. false) (B .step l i));
 }
+
+abbrev pub stateless : Automaton
+stateless = record { states = 0; initial = λ i. false; final = λ i. false; step = λ l i j. false }
 
 -- One state that accepts every word.
 abbrev pub allWords : Automaton

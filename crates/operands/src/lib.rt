@@ -1,7 +1,31 @@
-// The checks of two records that a service is called with.
+// The two records that a service is called with: what the second stands for, and the checks of both.
 ghost use mathlib.Core.Path.{_≡_};
+ghost use Rattle.record.specs.Record.{lettersOf};
+ghost use Rattle.operands.specs.Meant.{blankOf};
 ghost use Rattle.operands.specs.Operands.{pairOf, named};
 use record::Checked;
+
+// The bytes of a record with no states.
+pub type Blank = [u8; 15];
+
+// The byte of a record that has the number of its letters; 0 where the record ends before it.
+fn letters(bytes: &[u8]) -> u8
+    ensures { λ r. ⌜ r ≡ lettersOf (now (bytes .entry)) ⌝ }
+{
+    if bytes.len() <= 6 {
+        return 0;
+    }
+    bytes[6]
+}
+
+// The record that a second one of 0 bytes stands for: no states, over the first one's letters. It is written whatever the first record is,
+// since the check of the first comes before all else.
+pub fn blank(first: &[u8], out: &mut Blank)
+    ensures { λ _. ⌜ now (out .exit) ≡ blankOf (lettersOf (now (first .entry))) ⌝ }
+{
+    let a = letters(first);
+    *out = [0x4E, 0x58, 0x41, 1, 0, 0, a, 0, 0, 0, 0, 0, 0, 0, 0];
+}
 
 // What the checks of two records find: both pass, over the same letters, or the refusal.
 pub enum Pair {

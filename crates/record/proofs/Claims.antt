@@ -1,6 +1,5 @@
 -- What the form of a minimal record amounts to, and that the record of a minimal automaton has it.
 use mathlib.Core.Path.{_≡_, refl, sym, ap, subst, _∙_}
-use mathlib.Core.Bool.{false}
 use mathlib.Core.List.{List}
 use Prim.Native.Nat.{ℕ, _+_, _*_, _^_, _≤_, _<_}
 use native.Mathlib.Omega.{arith}
@@ -10,6 +9,7 @@ use Rattle.automata.specs.Language.{Language, Same}
 use Rattle.automata.specs.Dimension.{IsDimension}
 use Rattle.automata.specs.Minimal.{Minimal}
 use Rattle.automata.specs.MinimalOf.{basisWords, minimalOf, dimensionOf}
+use Rattle.automata.specs.Operations.{stateless}
 use Rattle.automata.proofs.Minimal.{minimal-accepts, minimal-dimension, minimal-same, minimal-unique, same-sym, bits-minimal}
 use Rattle.automata.proofs.MinimalOf.{minimal-of}
 use Rattle.automata.proofs.Dimension.{dimension-unique, dimension-of, dimension-least, minimal-states}
@@ -19,10 +19,6 @@ use Rattle.record.specs.Record.{maxStates, maxLetters, rowBytes, initial
 use Rattle.record.specs.Claims.{MinimalForm, MinimalRecord}
 use Rattle.record.proofs.Refusals.{good-check}
 use Rattle.record.proofs.Encode.{letters-encode, check-encode, bits-encode, bytes-encode, fields-encode, encode-automaton}
-
--- The automaton with no states.
-abbrev noStates : Automaton
-noStates = record { states = 0; initial = λ i. false; final = λ i. false; step = λ l i j. false }
 
 -- A well-formed record of no states has no bits.
 no-bits : (bs : List ℕ) → WellFormed bs → statesOf bs ≡ 0 → (number rowBytes bs initialAt ≡ 0) × (number rowBytes bs finalAt ≡ 0)
@@ -66,7 +62,7 @@ minimal-record a L bs F = record {
   words = form-words a L bs F;
   dimension = form-dimension a L bs F;
   least = form-least a L bs F;
-  empty = λ e. let none : statesOf bs ≡ 0 = omega (arith, form-least a L bs F noStates e) in let bits = no-bits bs (F .formed) none in (none, bits .0, bits .1);
+  empty = λ e. let none : statesOf bs ≡ 0 = omega (arith, form-least a L bs F stateless e) in let bits = no-bits bs (F .formed) none in (none, bits .0, bits .1);
   unique = λ K cs G. (
     λ e w ow. form-words a L bs F w ow ∙ ap (λ x. languageOf x w) e ∙ sym (form-words a K cs G w ow),
     λ same. sym (form-again a L bs F)
