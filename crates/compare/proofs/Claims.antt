@@ -2,7 +2,7 @@
 use mathlib.Core.Path.{_≡_, refl, sym, ap, subst, _∙_}
 use mathlib.Core.Bool.{Bool, true, false}
 use mathlib.Core.Logic.{_⊎_, inl, inr}
-use mathlib.Core.List.{List}
+use mathlib.Core.List.{List, []}
 use mathlib.Core.Option.{some}
 use Prim.Native.Nat.{ℕ, _<_, _≤_}
 use lib.ListN.{length, take}
@@ -12,9 +12,11 @@ use Rattle.record.specs.Record.{lettersOf, automatonOf, languageOf}
 use Rattle.record.specs.Outcome.{bufferIn}
 use Rattle.record.proofs.Outcome.{outcome-take}
 use Rattle.record.specs.Claims.{Operands, SameWords, FirstWord}
+use Rattle.operands.specs.Meant.{blankOf, asMeant}
 use Rattle.operands.specs.Operands.{pairOf}
 use Rattle.operands.specs.declared.Pair.the-variants.{Both, Refused as Bad}
 use Rattle.operands.proofs.PairLaws.{both-pass, both-passed, pair-named}
+use Rattle.operands.proofs.MeantLaws.{as-blank}
 use Rattle.compare.specs.Compare.{differenceOf, compareOutcome, sideOf, acceptorOf, compareAnswer, Differ, ShortWord, Withheld, Compares}
 use Rattle.compare.specs.declared.Side.{Side}
 use Rattle.compare.specs.declared.Side.the-variants.{First, Second}
@@ -96,3 +98,11 @@ module _ (bs cs buf exit : List ℕ) (r : Compared) (answer : r ≡ compareAnswe
 
   pub claims : Compares bs cs buf exit r
   claims = record { same = same; names = names; named = named; withholds = withholds; withheld = withheld }
+
+-- ---- a blank
+
+-- For a blank the answer and the buffer are those for the record of 15 bytes that it stands for.
+pub compare-blank : (bs buf : List ℕ)
+    → (asMeant compareAnswer bs [] (length buf) ≡ asMeant compareAnswer bs (blankOf (lettersOf bs)) (length buf))
+    × (bufferIn (asMeant compareOutcome bs []) buf ≡ bufferIn (asMeant compareOutcome bs (blankOf (lettersOf bs))) buf)
+compare-blank bs buf = (as-blank (λ bs cs. compareAnswer bs cs (length buf)) bs, as-blank (λ bs cs. bufferIn (compareOutcome bs cs) buf) bs)

@@ -2,6 +2,7 @@
 ghost use mathlib.Core.Path.{_≡_};
 ghost use lib.ListN.{length};
 ghost use Rattle.record.specs.Outcome.{bufferIn};
+ghost use Rattle.operands.specs.Meant.{asMeant};
 ghost use Rattle.operands.specs.Operands.{pairOf};
 ghost use Rattle.compare.specs.Compare.{compareOutcome, compareAnswer, sideOf, comparedRefusal, Compares};
 use operands::Pair;
@@ -81,11 +82,8 @@ fn settle(first: &[u8], second: &[u8], word: &mut [u8]) -> Compared
     Compared::Differs { length: n, side: s }
 }
 
-// Compares two records and writes the first word that just one accepts. `claims`: for two well-formed records over the same letters, Same
-// comes exactly when every word over the letters, of any length, is accepted by both or by neither. Otherwise the word is the first such
-// word in shortlex order, the side named accepts it, and it has at most 63 letters and fewer than the two dimensions added. Refusal 12
-// comes exactly where the languages differ and the buffer is shorter than that word, its place the word's length.
-pub fn compare(first: &[u8], second: &[u8], word: &mut [u8]) -> Compared
+// The comparison of two records that stand for themselves.
+fn compare_meant(first: &[u8], second: &[u8], word: &mut [u8]) -> Compared
     ensures answer { λ r. ⌜ r ≡ compareAnswer (now (first .entry)) (now (second .entry)) (length (now (word .entry))) ⌝ }
     ensures buffer { λ _. ⌜ now (word .exit) ≡ bufferIn (compareOutcome (now (first .entry)) (now (second .entry))) (now (word .entry)) ⌝ }
     ensures claims { λ r. ⌜ Compares (now (first .entry)) (now (second .entry)) (now (word .entry)) (now (word .exit)) r ⌝ }
@@ -96,4 +94,22 @@ pub fn compare(first: &[u8], second: &[u8], word: &mut [u8]) -> Compared
         return refuse(p);
     };
     settle(&*first, &*second, word)
+}
+
+// Compares two records and writes the first word that just one accepts; a second record of 0 bytes is a blank, the machine with no states
+// over the first one's letters. `claims`: for two well-formed records over the same letters, Same comes exactly when every word over the
+// letters, of any length, is accepted by both or by neither. Otherwise the word is the first such word in shortlex order, the side named
+// accepts it, and it has at most 63 letters and fewer than the two dimensions added. Refusal 12 comes exactly where the languages differ
+// and the buffer is shorter than that word, its place the word's length.
+pub fn compare(first: &[u8], second: &[u8], word: &mut [u8]) -> Compared
+    ensures answer { λ r. ⌜ r ≡ asMeant compareAnswer (now (first .entry)) (now (second .entry)) (length (now (word .entry))) ⌝ }
+    ensures buffer { λ _. ⌜ now (word .exit) ≡ bufferIn (asMeant compareOutcome (now (first .entry)) (now (second .entry))) (now (word .entry)) ⌝ }
+    ensures claims { λ r. ⌜ asMeant Compares (now (first .entry)) (now (second .entry)) (now (word .entry)) (now (word .exit)) r ⌝ }
+{
+    if second.len() == 0 {
+        let mut b = [0u8; 15];
+        operands::blank(first, &mut b);
+        return compare_meant(&*first, &b, word);
+    }
+    compare_meant(&*first, &*second, word)
 }

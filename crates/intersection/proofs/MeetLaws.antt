@@ -1,7 +1,7 @@
 -- The outcome of the meet, case by case, and its claims over all words.
 use mathlib.Core.Path.{_≡_, refl, sym, ap, ap₂, subst, _∙_}
 use mathlib.Core.Bool.{_&&_}
-use mathlib.Core.List.{List}
+use mathlib.Core.List.{List, []}
 use Prim.Native.Nat.{ℕ, _*_, _<_, _≤_}
 use native.Mathlib.Decide.{decLt}
 use native.Mathlib.Omega.{arith}
@@ -25,8 +25,10 @@ use Rattle.record.specs.Outcome.{Outcome, refused, wrote, answerOf, answerIn, b
 use Rattle.record.specs.declared.Written.{Written}
 use Rattle.record.specs.declared.Written.the-variants.{Refused}
 use Rattle.record.specs.Claims.{Operands}
+use Rattle.operands.specs.Meant.{blankOf}
 use Rattle.operands.specs.Operands.{pairOf}
 use Rattle.operands.specs.declared.Pair.the-variants.{Refused as Bad}
+use Rattle.operands.proofs.MeantLaws.{SameFor, writes-blank}
 use Rattle.results.specs.Results.{resultOf, Limits}
 use Rattle.results.specs.Built.{Built}
 use Rattle.results.proofs.ResultLaws.{result-number, limits-of, Promises, Service, service-of}
@@ -143,3 +145,7 @@ module _ (bs cs : List ℕ) where
   pub meet-gives : (buf t : List ℕ) (m : Machine) (exit : List ℕ) (r : Written) → Operands bs cs × Small bs cs → Built (lettersOf bs) (intersection (languageOf bs) (languageOf cs)) t m
       → r ≡ answerIn (resultOf (m .letters) (automatonIn t m)) buf → exit ≡ bufferIn (resultOf (m .letters) (automatonIn t m)) buf → Promised buf exit r
   meet-gives buf t m exit r p B answer buffer = with-products buf exit r (meet-service buf .1 t m exit r p B answer buffer)
+
+-- For a blank the answer and the buffer are those for the record of 15 bytes that it stands for.
+pub meet-blank : (buf bs : List ℕ) → SameFor meetOutcome buf bs [] (blankOf (lettersOf bs))
+meet-blank = writes-blank meetOutcome

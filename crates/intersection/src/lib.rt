@@ -8,6 +8,7 @@ ghost use Rattle.rows.specs.Table.{blocks, size, at};
 ghost use Rattle.rows.specs.Machine.{Valid};
 ghost use Rattle.direct_sum.specs.Filled.{Filled};
 ghost use Rattle.record.specs.Outcome.{answerIn, bufferIn};
+ghost use Rattle.operands.specs.Meant.{asMeant};
 ghost use Rattle.results.specs.Built.{heldWords, Built};
 ghost use Rattle.intersection.specs.Meet.{meetOutcome, Meets};
 ghost use Rattle.intersection.specs.Kron.{kron, crossed};
@@ -83,9 +84,8 @@ fn product(t: &Table, g: Machine, u: &Table, h: Machine, s: &mut Table) -> Machi
     }
 }
 
-// Writes the minimal record of the words that both records accept. `claims`: as for operations::sum; besides, refusal 10 comes exactly where
-// the records pass and the product of their dimensions is over 64, its place the product, and refusal 11 only where that product is not.
-pub fn meet(first: &[u8], second: &[u8], out: &mut [u8]) -> Written
+// The meet of two records that stand for themselves.
+fn meet_meant(first: &[u8], second: &[u8], out: &mut [u8]) -> Written
     ensures answer { λ r. ⌜ r ≡ answerIn (meetOutcome (now (first .entry)) (now (second .entry))) (now (out .entry)) ⌝ }
     ensures buffer { λ _. ⌜ now (out .exit) ≡ bufferIn (meetOutcome (now (first .entry)) (now (second .entry))) (now (out .entry)) ⌝ }
     ensures claims { λ r. ⌜ Meets (now (first .entry)) (now (second .entry)) (now (out .exit)) r ⌝ }
@@ -109,4 +109,20 @@ pub fn meet(first: &[u8], second: &[u8], out: &mut [u8]) -> Written
     }
     let m = product(&t, g, &u, h, &mut s);
     results::finish(&mut s, m, out)
+}
+
+// Writes the minimal record of the words that both records accept; a second record of 0 bytes is a blank, the machine with no states over
+// the first one's letters. `claims`: as for operations::sum; besides, refusal 10 comes exactly where the records pass and the product of
+// their dimensions is over 64, its place the product, and refusal 11 only where that product is not.
+pub fn meet(first: &[u8], second: &[u8], out: &mut [u8]) -> Written
+    ensures answer { λ r. ⌜ r ≡ answerIn (asMeant meetOutcome (now (first .entry)) (now (second .entry))) (now (out .entry)) ⌝ }
+    ensures buffer { λ _. ⌜ now (out .exit) ≡ bufferIn (asMeant meetOutcome (now (first .entry)) (now (second .entry))) (now (out .entry)) ⌝ }
+    ensures claims { λ r. ⌜ asMeant Meets (now (first .entry)) (now (second .entry)) (now (out .exit)) r ⌝ }
+{
+    if second.len() == 0 {
+        let mut b = [0u8; 15];
+        operands::blank(first, &mut b);
+        return meet_meant(first, &b, out);
+    }
+    meet_meant(first, second, out)
 }

@@ -1,5 +1,5 @@
 -- How many lines there are: a record has at least 15 bytes, so only an index below 4,370 has a line.
-use mathlib.Core.Path.{_≡_, refl, sym, ap, _∙_}
+use mathlib.Core.Path.{_≡_, refl, ap}
 use mathlib.Core.Bool.{Bool, true, false, cond}
 use mathlib.Core.List.{List, []}
 use Prim.Native.Nat.{ℕ, zero, suc, _+_, _*_, _≤_, _<_}
@@ -13,10 +13,10 @@ use Rattle.record.specs.declared.Checked.the-variants.{Good, Refused as Bad}
 use Rattle.script.specs.Script.{partAt, bytesAt}
 use Rattle.script.specs.declared.Part.{Part}
 use Rattle.script.specs.declared.Part.the-variants.{Whole, Refused, End}
-use Rattle.script.proofs.Parts.{end-met, whole-stands}
+use Rattle.script.proofs.Parts.{whole-stands}
 use Rattle.walk.specs.Walk.{onGood, pastPart, pastOf, placeOf}
-use Rattle.marking.specs.Marking.{maxScript, answerPartLine, markLine}
-use Rattle.marking.proofs.Cases.{long-later, line-answer}
+use Rattle.marking.specs.Marking.{maxScript, markLine}
+use Rattle.marking.proofs.Cases.{long-later, line-end}
 
 -- Where marking goes on short of the script's end, it has passed a record.
 goes-past : (b : Bool) (c : Checked) (next end least : ℕ) → least ≤ next → cond b (onGood c next end) next < end → least ≤ cond b (onGood c next end) next
@@ -49,9 +49,7 @@ line-index s index some = go (decLt index 4370)
     none : (index ≡ 0 → ⊥) → 4370 ≤ index → Dec (maxScript < length s) → Dec (placeOf s index < length s) → markLine s index ≡ []
     none h far (yes long) place = long-later s index (placeOf s index) long h
     none h far (no short) (yes before) = absurd (omega (arith, place-far s index before))
-    none h far (no short) (no past) =
-        line-answer s index (placeOf s index) (omega arith) h
-        ∙ ap (answerPartLine s index) (sym (end-met s (placeOf s index) (omega arith)))
+    none h far (no short) (no past) = line-end s index (placeOf s index) (omega arith) (omega arith)
 
     go : Dec (index < 4370) → index < 4370
     go (yes h) = h

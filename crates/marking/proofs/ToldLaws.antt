@@ -13,13 +13,13 @@ use Rattle.operands.proofs.PairLaws.{both-pass}
 use Rattle.compare.specs.Compare.{differenceOf, sideOf, Differ}
 use Rattle.compare.proofs.CompareLaws.{clash}
 use Rattle.compare.proofs.Claims.{accepted, side-named}
-use Rattle.script.specs.Script.{partAt, afterPart}
+use Rattle.script.specs.Script.{partAt, afterPart, bytesAt}
 use Rattle.script.proofs.Parts.{whole-stands}
 use Rattle.lines.specs.Lines.{keyLine, sameLine, differLine}
 use Rattle.walk.specs.Walk.{placeOf}
-use Rattle.marking.specs.Marking.{maxScript, dimensionIn, keyRecordLine, answerLine, keyOf, keyPartLine, answerPartLine, markLine}
+use Rattle.marking.specs.Marking.{maxScript, dimensionIn, keyRecordLine, answerLine, keyOf, partLine, markLine}
 use Rattle.marking.specs.Told.{RecordAt, KeyTold, AnswerTold, Told}
-use Rattle.marking.proofs.Cases.{key-good, line-key, line-answer}
+use Rattle.marking.proofs.Cases.{key-good, record-key, record-answer, line-part}
 use Rattle.marking.proofs.Verdicts.{answer-same, answer-differs}
 use Rattle.lines.proofs.Readable.{dim-injective, differ-injective, not-both}
 
@@ -35,8 +35,9 @@ shows bs d e = subst (HasDimension bs) e (dimension-of (lettersOf bs) (automaton
 key-line : (s : List ℕ) (index : ℕ) (key : List ℕ) → length s ≤ maxScript → index ≡ 0 → RecordAt s 0 key → markLine s index ≡ keyRecordLine key
 unfolding markLine
 key-line s index key short z r =
-    line-key s index (placeOf s index) short z
-    ∙ ap (keyPartLine s) (ap (λ i. partAt s (placeOf s i)) z ∙ r .whole)
+    line-part s index (placeOf s index) short
+    ∙ ap (partLine s index) (ap (λ i. partAt s (placeOf s i)) z ∙ r .whole)
+    ∙ record-key s index (bytesAt s (r .start) (r .next)) z
     ∙ ap keyRecordLine (sym (r .bytes))
 
 -- The key is the record of index 0.
@@ -51,8 +52,9 @@ answer-line : (s : List ℕ) (index : ℕ) (key answer : List ℕ) → length s 
     → markLine s index ≡ answerLine index key answer
 unfolding markLine
 answer-line s index key answer short z k r =
-    line-answer s index (placeOf s index) short z
-    ∙ ap (answerPartLine s index) (r .whole)
+    line-part s index (placeOf s index) short
+    ∙ ap (partLine s index) (r .whole)
+    ∙ record-answer s index (bytesAt s (r .start) (r .next)) z
     ∙ ap₂ (answerLine index) (key-is s key k) (sym (r .bytes))
 
 -- ---- the claims

@@ -1,6 +1,7 @@
 -- Marking a script (01: Marking a script): the line of the record of each index, and the marking service.
 --   dimensionIn bs            the dimension of a record's language
 --   keyOf s                   the bytes of a script's first record
+--   recordLine s index bs     the line of a record that stands whole, as that of an index
 --   lineAt s index at         the line of what stands at a position, as that of an index
 --   markLine s index          the line of an index, no bytes where there is none
 --   markOutcome s index room  what the service does with a buffer of so many bytes
@@ -60,24 +61,19 @@ answerLine index key answer =
 unfoldable pub keyOf : List ℕ → List ℕ
 keyOf s = take (afterPart (partAt s 0) 0) s
 
--- A missing key is refusal 1, place 0.
-abbrev pub keyPartLine : List ℕ → Part → List ℕ
-keyPartLine s (Whole start next) = keyRecordLine (bytesAt s start next)
-keyPartLine s (Refused number place) = refusedLine 0 number place
-keyPartLine s End = refusedLine 0 1 0
+-- The key has index 0.
+unfoldable pub recordLine : List ℕ → ℕ → List ℕ → List ℕ
+recordLine s index bs = cond (eqb index 0) (keyRecordLine bs) (answerLine index (keyOf s) bs)
 
--- With 0 bytes left marking ends.
-abbrev pub answerPartLine : List ℕ → ℕ → Part → List ℕ
-answerPartLine s index (Whole start next) = answerLine index (keyOf s) (bytesAt s start next)
-answerPartLine s index (Refused number place) = refusedLine index number place
-answerPartLine s index End = []
+-- With 0 bytes left marking ends, so a script of 0 bytes has no lines.
+abbrev pub partLine : List ℕ → ℕ → Part → List ℕ
+partLine s index (Whole start next) = recordLine s index (bytesAt s start next)
+partLine s index (Refused number place) = refusedLine index number place
+partLine s index End = []
 
--- A script that is too long has one line; the key has index 0.
+-- A script that is too long has one line.
 unfoldable pub lineAt : List ℕ → ℕ → ℕ → List ℕ
-lineAt s index at =
-    cond (ltb maxScript (length s))
-    (cond (eqb index 0) tooLongLine [])
-    (cond (eqb index 0) (keyPartLine s (partAt s at)) (answerPartLine s index (partAt s at)))
+lineAt s index at = cond (ltb maxScript (length s)) (cond (eqb index 0) tooLongLine []) (partLine s index (partAt s at))
 
 -- ---- the service
 

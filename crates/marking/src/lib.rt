@@ -1,12 +1,12 @@
 // Marking a script: the line of each of its records, and the marking service.
 ghost use mathlib.Core.Path.{_≡_};
-ghost use Prim.Native.Nat.{_≤_};
+ghost use Prim.Native.Nat.{_≤_, _<_};
 ghost use lib.ListN.{length};
 ghost use Rattle.record.specs.Record.{WellFormed};
 ghost use Rattle.record.specs.Outcome.{fit, answerOf, bufferOf, answerIn, bufferIn};
 ghost use Rattle.script.specs.Script.{partAt};
 ghost use Rattle.lines.specs.Lines.{longest, Begins};
-ghost use Rattle.marking.specs.Marking.{dimensionIn, keyRecordLine, answerLine, keyPartLine, answerPartLine, lineAt, markLine, markOutcome};
+ghost use Rattle.marking.specs.Marking.{dimensionIn, keyRecordLine, answerLine, recordLine, partLine, lineAt, markLine, markOutcome};
 ghost use Rattle.marking.specs.Told.{Marks};
 use compare::Compared;
 use record::Checked;
@@ -42,9 +42,10 @@ fn key_line(line: &mut [u8], key: &[u8]) -> usize
     }
 }
 
-// The line of an answer: the verdict of the comparison with the key, and the answer's own dimension.
+// The line of an answer: the verdict of the comparison with the key, and the answer's own dimension. An answer of a script has bytes, so it
+// is no blank.
 fn answer_line(line: &mut [u8], index: usize, key: &[u8], answer: &[u8]) -> usize
-    requires { ⌜ longest ≤ length (now line) ⌝ }
+    requires { ⌜ (longest ≤ length (now line)) × (0 < length (now answer)) ⌝ }
     ensures { λ r. ⌜ Begins (now (line .exit)) r (answerLine index (now (key .entry)) (now (answer .entry))) ⌝ }
 {
     let mut word = [0u8; 64];
@@ -65,35 +66,32 @@ fn answer_line(line: &mut [u8], index: usize, key: &[u8], answer: &[u8]) -> usiz
     }
 }
 
-// The line of what stands at a position, as the key.
-fn key_part_line(line: &mut [u8], script: &[u8], at: usize) -> usize
-    requires { ⌜ longest ≤ length (now line) ⌝ }
-    ensures { λ r. ⌜ Begins (now (line .exit)) r (keyPartLine (now (script .entry)) (partAt (now (script .entry)) at)) ⌝ }
+// The line of a record that stands whole, as that of an index: the key has index 0.
+fn record_line(line: &mut [u8], script: &[u8], index: usize, bytes: &[u8]) -> usize
+    requires { ⌜ (longest ≤ length (now line)) × (0 < length (now bytes)) ⌝ }
+    ensures { λ r. ⌜ Begins (now (line .exit)) r (recordLine (now (script .entry)) index (now (bytes .entry))) ⌝ }
 {
-    match script::part_at(script, at) {
-        Part::Whole { start, next } => key_line(line, &script[start..next]),
-        Part::Refused { number, place } => lines::refused_line(line, 0, number, place),
-        Part::End => lines::refused_line(line, 0, 1, 0),
+    if index == 0 {
+        return key_line(line, bytes);
     }
+    let end = walk::key_end(script);
+    answer_line(line, index, &script[..end], bytes)
 }
 
-// The line of what stands at a position, as an answer.
-fn answer_part_line(line: &mut [u8], script: &[u8], index: usize, at: usize) -> usize
+// The line of what stands at a position, as the record of an index: none with 0 bytes left.
+fn part_line(line: &mut [u8], script: &[u8], index: usize, at: usize) -> usize
     requires { ⌜ longest ≤ length (now line) ⌝ }
-    ensures { λ r. ⌜ Begins (now (line .exit)) r (answerPartLine (now (script .entry)) index (partAt (now (script .entry)) at)) ⌝ }
+    ensures { λ r. ⌜ Begins (now (line .exit)) r (partLine (now (script .entry)) index (partAt (now (script .entry)) at)) ⌝ }
 {
     match script::part_at(script, at) {
-        Part::Whole { start, next } => {
-            let end = walk::key_end(script);
-            answer_line(line, index, &script[..end], &script[start..next])
-        }
+        Part::Whole { start, next } => record_line(line, script, index, &script[start..next]),
         Part::Refused { number, place } => lines::refused_line(line, index, number, place),
         Part::End => 0,
     }
 }
 
-// The line of what stands at a position, as the record of an index; one line in place of all for a script that is too long.
-fn part_line(line: &mut [u8], script: &[u8], index: usize, at: usize) -> usize
+// The same, but one line in place of all for a script that is too long.
+fn script_line(line: &mut [u8], script: &[u8], index: usize, at: usize) -> usize
     requires { ⌜ longest ≤ length (now line) ⌝ }
     ensures { λ r. ⌜ Begins (now (line .exit)) r (lineAt (now (script .entry)) index at) ⌝ }
 {
@@ -103,10 +101,7 @@ fn part_line(line: &mut [u8], script: &[u8], index: usize, at: usize) -> usize
         }
         return 0;
     }
-    if index == 0 {
-        return key_part_line(line, script, at);
-    }
-    answer_part_line(line, script, index, at)
+    part_line(line, script, index, at)
 }
 
 // Writes the line of what stands at a position, as the record of an index: what a walk through a script calls, with `walk::past`.
@@ -116,7 +111,7 @@ pub fn line_at(script: &[u8], index: usize, at: usize, out: &mut [u8]) -> Writte
     ensures room { λ _. ⌜ length (lineAt (now (script .entry)) index at) ≤ longest ⌝ }
 {
     let mut line = [0u8; LONGEST];
-    let n = part_line(&mut line, script, index, at);
+    let n = script_line(&mut line, script, index, at);
     lines::give(&line, n, out)
 }
 

@@ -12,6 +12,7 @@ use Rattle.walk.specs.Walk.{pastOf, placeOf}
 use Rattle.lines.specs.Lines.{longest, Begins}
 use Rattle.lines.proofs.Building.{begins-as, begins-none}
 use Rattle.marking.specs.Marking.{markLine}
+use Rattle.marking.proofs.Cases.{no-lines}
 use Rattle.marking.proofs.Bound.{line-index}
 use Rattle.marking_io.specs.Text.{linesBelow, IsText, mostLines}
 
@@ -99,3 +100,11 @@ module _ (s : List ℕ) where
 
       same : a .count ≡ b .count
       same = go (decLt (a .count) (b .count)) (decLt (b .count) (a .count))
+
+-- The text of a script of 0 bytes is empty.
+pub no-text : (t : List ℕ) → IsText [] t → t ≡ []
+no-text t p = p .bytes ∙ ap (linesBelow []) (none (decLt 0 (p .count))) ∙ lines-none []
+  where
+    none : Dec (0 < p .count) → p .count ≡ 0
+    none (yes h) = absurd (omega (arith, p .each 0 h, ap length (no-lines 0)))
+    none (no h) = omega arith

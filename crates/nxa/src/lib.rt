@@ -4,6 +4,7 @@ ghost use Prim.Native.Nat.{_≤_};
 ghost use lib.ListN.{length};
 ghost use Rattle.record.specs.Record.{checkOf, WellFormed};
 ghost use Rattle.record.specs.Outcome.{answerIn, bufferIn, rewriteOf};
+ghost use Rattle.operands.specs.Meant.{asMeant};
 ghost use Rattle.testing.specs.Testing.{testOf};
 ghost use Rattle.minimal.specs.Minimal.{minimalOutcome, minimalAnswer, GivesMinimal};
 ghost use Rattle.compare.specs.Compare.{compareOutcome, compareAnswer, Compares};
@@ -53,16 +54,17 @@ pub extern "C" fn nxa_minimal(record: &[u8], out: &mut [u8]) -> Reply
     replies::of_minimised(minimal::minimal(record, out))
 }
 
-// Compares two records and writes the first word that just one accepts. `claims`, for two well-formed records over the same letters: number 0
+// Compares two records and writes the first word that just one accepts. Of two records, here and below, a second one of 0 bytes is a blank,
+// the machine with no states over the first one's letters (`asMeant`). `claims`, for two well-formed records over the same letters: number 0
 // and value 0 come exactly when every word over the letters, of any length, is accepted by both or by neither. Otherwise, where number is
 // 0, the first `length` bytes of the buffer are the first such word in shortlex order, the record that `value` names accepts it, and it has
 // at most 63 letters and fewer than the two dimensions added. Refusal 12 comes exactly where the languages differ and the buffer is shorter
 // than that word, its place the word's length.
 #[no_mangle]
 pub extern "C" fn nxa_compare(first: &[u8], second: &[u8], word: &mut [u8]) -> Reply
-    ensures reply { λ r. ⌜ r ≡ ofCompared (compareAnswer (now (first .entry)) (now (second .entry)) (length (now (word .entry)))) ⌝ }
-    ensures buffer { λ _. ⌜ now (word .exit) ≡ bufferIn (compareOutcome (now (first .entry)) (now (second .entry))) (now (word .entry)) ⌝ }
-    ensures claims { λ r. ⌜ Compares (now (first .entry)) (now (second .entry)) (now (word .entry)) (now (word .exit)) (comparedIn r) ⌝ }
+    ensures reply { λ r. ⌜ r ≡ ofCompared (asMeant compareAnswer (now (first .entry)) (now (second .entry)) (length (now (word .entry)))) ⌝ }
+    ensures buffer { λ _. ⌜ now (word .exit) ≡ bufferIn (asMeant compareOutcome (now (first .entry)) (now (second .entry))) (now (word .entry)) ⌝ }
+    ensures claims { λ r. ⌜ asMeant Compares (now (first .entry)) (now (second .entry)) (now (word .entry)) (now (word .exit)) (comparedIn r) ⌝ }
 {
     replies::of_compared(compare::compare(first, second, word))
 }
@@ -72,9 +74,9 @@ pub extern "C" fn nxa_compare(first: &[u8], second: &[u8], word: &mut [u8]) -> R
 // 11 comes exactly where the operands pass and the dimension of the result is over 32, its place the dimension.
 #[no_mangle]
 pub extern "C" fn nxa_sum(first: &[u8], second: &[u8], out: &mut [u8]) -> Reply
-    ensures reply { λ r. ⌜ r ≡ ofWritten (answerIn (sumOutcome (now (first .entry)) (now (second .entry))) (now (out .entry))) ⌝ }
-    ensures buffer { λ _. ⌜ now (out .exit) ≡ bufferIn (sumOutcome (now (first .entry)) (now (second .entry))) (now (out .entry)) ⌝ }
-    ensures claims { λ r. ⌜ Sums (now (first .entry)) (now (second .entry)) (now (out .exit)) (writtenIn r) ⌝ }
+    ensures reply { λ r. ⌜ r ≡ ofWritten (answerIn (asMeant sumOutcome (now (first .entry)) (now (second .entry))) (now (out .entry))) ⌝ }
+    ensures buffer { λ _. ⌜ now (out .exit) ≡ bufferIn (asMeant sumOutcome (now (first .entry)) (now (second .entry))) (now (out .entry)) ⌝ }
+    ensures claims { λ r. ⌜ asMeant Sums (now (first .entry)) (now (second .entry)) (now (out .exit)) (writtenIn r) ⌝ }
 {
     replies::of_written(operations::sum(first, second, out))
 }
@@ -83,9 +85,9 @@ pub extern "C" fn nxa_sum(first: &[u8], second: &[u8], out: &mut [u8]) -> Reply
 // records pass and the product of their dimensions is over 64, its place the product, and refusal 11 only where that product is not.
 #[no_mangle]
 pub extern "C" fn nxa_meet(first: &[u8], second: &[u8], out: &mut [u8]) -> Reply
-    ensures reply { λ r. ⌜ r ≡ ofWritten (answerIn (meetOutcome (now (first .entry)) (now (second .entry))) (now (out .entry))) ⌝ }
-    ensures buffer { λ _. ⌜ now (out .exit) ≡ bufferIn (meetOutcome (now (first .entry)) (now (second .entry))) (now (out .entry)) ⌝ }
-    ensures claims { λ r. ⌜ Meets (now (first .entry)) (now (second .entry)) (now (out .exit)) (writtenIn r) ⌝ }
+    ensures reply { λ r. ⌜ r ≡ ofWritten (answerIn (asMeant meetOutcome (now (first .entry)) (now (second .entry))) (now (out .entry))) ⌝ }
+    ensures buffer { λ _. ⌜ now (out .exit) ≡ bufferIn (asMeant meetOutcome (now (first .entry)) (now (second .entry))) (now (out .entry)) ⌝ }
+    ensures claims { λ r. ⌜ asMeant Meets (now (first .entry)) (now (second .entry)) (now (out .exit)) (writtenIn r) ⌝ }
 {
     replies::of_written(intersection::meet(first, second, out))
 }
@@ -121,7 +123,8 @@ pub extern "C" fn nxa_catalogue(number: usize, out: &mut [u8]) -> Reply
     replies::of_written(catalogue::give(number, out))
 }
 
-// Writes the line of a script's record by its index, or no bytes where marking ends before it; it refuses only with 12.
+// Writes the line of a script's record by its index, or no bytes where marking ends before it, as it does at once for a script of 0 bytes;
+// it refuses only with 12.
 // `room`: 160 bytes are enough for every line.
 // `claims`: where number is 0, the first `length` bytes of the buffer tell of all words what 01 asks. The key's line has the dimension of
 // its language. An answer's line says `same` exactly when the key accepts the same words; otherwise its word is the first in shortlex

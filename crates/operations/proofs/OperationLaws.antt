@@ -1,6 +1,6 @@
 -- The outcomes of sum, complement and mirror, case by case, and their claims over all words.
 use mathlib.Core.Path.{_≡_, refl, sym, ap}
-use mathlib.Core.List.{List}
+use mathlib.Core.List.{List, []}
 use Prim.Native.Nat.{ℕ}
 use native.Mathlib.Omega.{arith}
 use lib.ListN.{length}
@@ -14,8 +14,10 @@ use Rattle.record.specs.declared.Checked.{Checked}
 use Rattle.record.specs.declared.Checked.the-variants.{Good, Refused as Wrong}
 use Rattle.record.proofs.Outcome.{checked-wrote}
 use Rattle.record.specs.Claims.{Operands}
+use Rattle.operands.specs.Meant.{blankOf}
 use Rattle.operands.specs.Operands.{pairOf, afterPair}
 use Rattle.operands.specs.declared.Pair.the-variants.{Refused as Bad}
+use Rattle.operands.proofs.MeantLaws.{SameFor, writes-blank}
 use Rattle.results.specs.Results.{resultOf}
 use Rattle.results.proofs.ResultLaws.{Service, service-of}
 use Rattle.results.proofs.Passed.{sizes, pair-wrote, pair-refused, pair-passed}
@@ -43,6 +45,10 @@ module _ (bs cs : List ℕ) where
     where
       result : Outcome
       result = resultOf (lettersOf bs) (sumOf (automatonOf bs) (automatonOf cs)) (length buf)
+
+-- For a blank the answer and the buffer are those for the record of 15 bytes that it stands for.
+pub sum-blank : (buf bs : List ℕ) → SameFor sumOutcome buf bs [] (blankOf (lettersOf bs))
+sum-blank = writes-blank sumOutcome
 
 -- ---- complement and mirror
 

@@ -10,6 +10,7 @@ ghost use Rattle.direct_sum.specs.Filled.{Filled};
 ghost use Rattle.record.specs.Record.{lettersOf, WellFormed, languageOf};
 ghost use Rattle.record.specs.Outcome.{answerIn, bufferIn};
 ghost use Rattle.record.specs.Claims.{Operands};
+ghost use Rattle.operands.specs.Meant.{asMeant};
 ghost use Rattle.results.specs.Built.{heldWords, Built};
 ghost use Rattle.operations.specs.Operations.{sumOutcome, sumWords, unaryLanguage, unaryOutcome, complementOutcome, mirrorOutcome, Sums, Operates, Complements, Mirrors};
 use operands::Pair;
@@ -114,10 +115,8 @@ fn turn_record(bytes: &[u8], s: &mut Table) -> Machine
     machine(n, a, f, i)
 }
 
-// Writes the minimal record of the words that just one of two records accepts. `claims`, of every service below: where it is granted, the
-// bytes written are the minimal record of the result, with all that MinimalRecord (record/specs/Claims) says of it; refusal 11 comes
-// exactly where the operands pass and the dimension of the result is over 32, its place the dimension.
-pub fn sum(first: &[u8], second: &[u8], out: &mut [u8]) -> Written
+// The sum of two records that stand for themselves.
+fn sum_meant(first: &[u8], second: &[u8], out: &mut [u8]) -> Written
     ensures answer { λ r. ⌜ r ≡ answerIn (sumOutcome (now (first .entry)) (now (second .entry))) (now (out .entry)) ⌝ }
     ensures buffer { λ _. ⌜ now (out .exit) ≡ bufferIn (sumOutcome (now (first .entry)) (now (second .entry))) (now (out .entry)) ⌝ }
     ensures claims { λ r. ⌜ Sums (now (first .entry)) (now (second .entry)) (now (out .exit)) r ⌝ }
@@ -129,6 +128,23 @@ pub fn sum(first: &[u8], second: &[u8], out: &mut [u8]) -> Written
     let mut s = [0u64; 512];
     let m = add_records(first, second, &mut s);
     results::finish(&mut s, m, out)
+}
+
+// Writes the minimal record of the words that just one of two records accepts; a second record of 0 bytes is a blank, the machine with no
+// states over the first one's letters. `claims`, of every service below: where it is granted, the bytes written are the minimal record of
+// the result, with all that MinimalRecord (record/specs/Claims) says of it; refusal 11 comes exactly where the operands pass and the
+// dimension of the result is over 32, its place the dimension.
+pub fn sum(first: &[u8], second: &[u8], out: &mut [u8]) -> Written
+    ensures answer { λ r. ⌜ r ≡ answerIn (asMeant sumOutcome (now (first .entry)) (now (second .entry))) (now (out .entry)) ⌝ }
+    ensures buffer { λ _. ⌜ now (out .exit) ≡ bufferIn (asMeant sumOutcome (now (first .entry)) (now (second .entry))) (now (out .entry)) ⌝ }
+    ensures claims { λ r. ⌜ asMeant Sums (now (first .entry)) (now (second .entry)) (now (out .exit)) r ⌝ }
+{
+    if second.len() == 0 {
+        let mut b = [0u8; 15];
+        operands::blank(first, &mut b);
+        return sum_meant(first, &b, out);
+    }
+    sum_meant(first, second, out)
 }
 
 // The automaton of an operation on a well-formed record, its rows in s.

@@ -5,3 +5,4 @@ pub mod Test
 pub mod Meaning
 pub mod Services
 pub mod Samples
+pub mod Blank

@@ -1,5 +1,5 @@
 -- A claim that passes its tests is one of what the services return.
-use mathlib.Core.Path.{_≡_, refl, sym, ap, ap₂, _∙_}
+use mathlib.Core.Path.{_≡_, refl, sym, ap, ap₂, subst, _∙_}
 use mathlib.Core.Bool.{Bool, true, false}
 use mathlib.Core.List.{List, [], _∷_}
 use mathlib.Core.Option.{some}
@@ -21,7 +21,10 @@ use Rattle.record.specs.declared.Checked.the-variants.{Good}
 use Rattle.record.proofs.Refusals.{good-check}
 use Rattle.record.proofs.Encode.{fields-encode}
 use Rattle.record.proofs.Outcome.{fit-done, fit-short}
+use Rattle.operands.specs.Meant.{meantOver}
 use Rattle.operands.specs.Operands.{pairOf, afterPair}
+use Rattle.operands.proofs.PairLaws.{both-passed}
+use Rattle.operands.proofs.MeantLaws.{meant-formed}
 use Rattle.testing.specs.Testing.{foreignFrom, testOf}
 use Rattle.minimal.specs.Minimal.{minimalBytes, minimalOutcome}
 use Rattle.minimal.proofs.MinimalLaws.{minimal-bytes}
@@ -34,7 +37,7 @@ use Rattle.results.specs.Results.{resultOf}
 use Rattle.operations.specs.Operations.{sumOutcome, unaryOutcome}
 use Rattle.intersection.specs.Meet.{maxProduct, crossing, meetOutcome}
 use Rattle.samples.specs.Claims.{Task, minimal, sum, meet, inverse, mirror, lettersFor, Claim, accepted, rejected, paths, speaks, gives, differ}
-use Rattle.samples.specs.Answers.{automatonFor, outcomeOf, verdict, Returned}
+use Rattle.samples.specs.Answers.{automatonFor, outcomeOf, verdict, DiffersBy, Returned}
 use Rattle.samples.proofs.Data.{Passed, good-true, both, both-true, word-true}
 use Rattle.samples.proofs.Test.{tests}
 use Rattle.samples.proofs.Meaning.{formed, over, states, own, same, holds}
@@ -79,18 +82,25 @@ module _ (t : Task) (r : List ℕ) (n d : ℕ) (p : Passed (tests (gives t r n d
       if-high maxStates e (refused 11 0 e) (fit room (encode a (minimalOf a (automatonFor t)))) (omega (arith, dimension, states t r n d p, good-check r (formed t r n d p) .front .states))
       ∙ ap (fit room) written-bytes
 
+-- A second record that passes the checks stands for itself.
+itself : (bs cs : List ℕ) → both (pairOf bs cs) ≡ true → cs ≡ meantOver (lettersOf bs) cs
+itself bs cs p = meant-formed (lettersOf bs) cs (both-passed bs cs (both-true (pairOf bs cs) p) .1)
+
 -- The checks pass, for meet row 10 too.
 outcome : (t : Task) (r : List ℕ) (n d : ℕ) → Passed (tests (gives t r n d)) → (room : ℕ) → outcomeOf t room ≡ fit room r
 unfolding minimalBytes minimalOutcome sumOutcome meetOutcome unaryOutcome
 outcome (minimal bs) r n d p room = ap (λ c. checked c 1 (fit room (minimalBytes bs))) (good-true (checkOf bs) (p .0)) ∙ ap (fit room) (written-bytes (minimal bs) r n d p)
-outcome (sum bs cs) r n d p room = ap (λ c. afterPair c (resultOf (lettersOf bs) (automatonFor (sum bs cs)) room)) (both-true (pairOf bs cs) (p .0)) ∙ result (sum bs cs) r n d p room
+outcome (sum bs cs) r n d p room =
+    subst (λ x. sumOutcome bs x room ≡ fit room r) (itself bs cs (p .0))
+    (ap (λ c. afterPair c (resultOf (lettersOf bs) (automatonFor (sum bs cs)) room)) (both-true (pairOf bs cs) (p .0)) ∙ result (sum bs cs) r n d p room)
 outcome (meet bs cs) r n d p room =
     let e : ℕ = dimensionOf (lettersOf bs) (automatonOf bs) * dimensionOf (lettersOf bs) (automatonOf cs) in
     let rest : Outcome = resultOf (lettersOf bs) (automatonFor (meet bs cs)) room in
     let t = and-parts (both (pairOf bs cs)) (leb e maxProduct) (p .0) in
-    ap (λ c. afterPair c (crossing e rest)) (both-true (pairOf bs cs) (t .0))
+    subst (λ x. meetOutcome bs x room ≡ fit room r) (itself bs cs (t .0))
+    (ap (λ c. afterPair c (crossing e rest)) (both-true (pairOf bs cs) (t .0))
     ∙ if-high maxProduct e (refused 10 0 e) rest (leb-true e maxProduct (t .1))
-    ∙ result (meet bs cs) r n d p room
+    ∙ result (meet bs cs) r n d p room)
 outcome (inverse bs) r n d p room = ap (λ c. checked c 1 (resultOf (lettersOf bs) (automatonFor (inverse bs)) room)) (good-true (checkOf bs) (p .0)) ∙ result (inverse bs) r n d p room
 outcome (mirror bs) r n d p room = ap (λ c. checked c 1 (resultOf (lettersOf bs) (automatonFor (mirror bs)) room)) (good-true (checkOf bs) (p .0)) ∙ result (mirror bs) r n d p room
 
@@ -102,7 +112,8 @@ differs bs cs w s p =
     let found : differenceOf bs cs ≡ some w = word-true w (differenceOf bs cs) (p .1 .0) in
     let word : (room : ℕ) → compareOutcome bs cs room ≡ fit room w = λ room. outcome-word bs cs room (both-true (pairOf bs cs) (p .0)) w found in
     let first = holds (differ bs cs w s) p in
-    let side : sideOf (languageOf bs w) ≡ s = side-named bs cs w s (first .0 .differs) (first .1) in (
+    let side : sideOf (languageOf bs w) ≡ s = side-named bs cs w s (first .0 .differs) (first .1) in
+    subst (DiffersBy w s bs) (itself bs cs (p .0)) (
       word,
       λ room h. ap₂ (λ x o. comparedAs x (automatonOf bs) o) found (word room ∙ fit-done room w refl h) ∙ ap (Differs (length w)) side,
       λ room h. ap₂ (λ x o. comparedAs x (automatonOf bs) o) found (word room ∙ fit-short room w refl h),

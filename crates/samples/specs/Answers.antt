@@ -2,6 +2,7 @@
 --   automatonFor t               the automaton that the service's outcome speaks of
 --   outcomeOf t                  what the service does with a buffer of so many bytes
 --   Served t r d                 it writes the record r, or refuses by row 12; the minimal service returns the dimension d besides
+--   DiffersBy w s bs cs          the comparison names the word w and the side s
 --   Returned c                   what the claim says of the services
 --   Wrote r buf w exit           of one call, with its answer w and the buffer at its end: the record r into buf, or row 12
 --   WroteMinimal r d buf w exit  the same of the minimal service
@@ -17,12 +18,14 @@ use Rattle.automata.specs.Operations.{sumOf, meetOf, complementOf, mirrorOf}
 use Rattle.record.specs.Record.{lettersOf, automatonOf}
 use Rattle.record.specs.Outcome.{Outcome, answerOf, bufferOf, fit}
 use Rattle.record.specs.declared.Written.{Written}
+use Rattle.operands.specs.Meant.{asMeant}
 use Rattle.testing.specs.Testing.{testOf}
 use Rattle.testing.specs.declared.Tested.{Tested}
 use Rattle.testing.specs.declared.Tested.the-variants.{Accepted, Rejected}
 use Rattle.minimal.specs.Minimal.{minimalOutcome, minimisedAs}
 use Rattle.minimal.specs.declared.Minimised.{Minimised}
 use Rattle.compare.specs.Compare.{compareOutcome, compareAnswer}
+use Rattle.compare.specs.declared.Side.{Side}
 use Rattle.compare.specs.declared.Compared.the-variants.{Differs, Refused as Withheld}
 use Rattle.operations.specs.Operations.{sumOutcome, complementOutcome, mirrorOutcome}
 use Rattle.intersection.specs.Meet.{meetOutcome}
@@ -38,8 +41,8 @@ automatonFor (mirror bs) = mirrorOf (automatonOf bs)
 
 abbrev pub outcomeOf : Task → ℕ → Outcome
 outcomeOf (minimal bs) = minimalOutcome bs
-outcomeOf (sum bs cs) = sumOutcome bs cs
-outcomeOf (meet bs cs) = meetOutcome bs cs
+outcomeOf (sum bs cs) = asMeant sumOutcome bs cs
+outcomeOf (meet bs cs) = asMeant meetOutcome bs cs
 outcomeOf (inverse bs) = complementOutcome bs
 outcomeOf (mirror bs) = mirrorOutcome bs
 
@@ -50,16 +53,20 @@ pub record Served (t : Task) (r : List ℕ) (d : ℕ) : Type 0 where
 abbrev pub verdict : Bool → Tested
 verdict b = cond b Accepted Rejected
 
+-- The comparison writes the word w, which the side s accepts, or withholds it.
+abbrev pub DiffersBy : List ℕ → Side → List ℕ → List ℕ → Type 0
+DiffersBy w s bs cs =
+    ((room : ℕ) → compareOutcome bs cs room ≡ fit room w)
+    × ((room : ℕ) → length w ≤ room → compareAnswer bs cs room ≡ Differs (length w) s)
+    × ((room : ℕ) → room < length w → compareAnswer bs cs room ≡ Withheld 12 0 (length w))
+
 abbrev pub Returned : Claim → Type 0
 Returned (accepted bs w) = testOf bs w ≡ Accepted
 Returned (rejected bs w) = testOf bs w ≡ Rejected
 Returned (paths bs k) = (w : List ℕ) → Over (lettersOf bs) w → testOf bs w ≡ verdict (odd k)
 Returned (speaks bs s) = (w : List ℕ) → Over (lettersOf bs) w → testOf bs w ≡ verdict (wordsIn s w)
 Returned (gives t r n d) = Served t r d
-Returned (differ bs cs w s) =
-    ((room : ℕ) → compareOutcome bs cs room ≡ fit room w)
-    × ((room : ℕ) → length w ≤ room → compareAnswer bs cs room ≡ Differs (length w) s)
-    × ((room : ℕ) → room < length w → compareAnswer bs cs room ≡ Withheld 12 0 (length w))
+Returned (differ bs cs w s) = asMeant (DiffersBy w s) bs cs
 
 -- ---- a call
 

@@ -57,9 +57,11 @@ fn refuse(row: &[u8], bytes: &[u8]) {
     ask::compare(row, &X, bytes);
 }
 
-// The samples of rows 1 to 7.
+// The samples of rows 1 to 7. A second record of 0 bytes is a blank, and row 1 needs a byte there.
 fn rows_1_to_3() {
-    refuse(b"row 1: ", b"");
+    ask::rewrite(b"row 1: ", b"");
+    ask::compare(b"row 1: ", b"", b"");
+    ask::compare(b"row 1: ", &X, b"N");
     refuse(
         b"row 2: ",
         b"NXB\x01\x00\x00\x01\x00\x00\x00\x00\x00\x00\x00\x00",
@@ -121,6 +123,17 @@ fn rows_12_and_13() {
     ask::catalogue(b"row 13: ", 6);
 }
 
+// A blank against X, against no word, and against only 0^31 over one letter; the sum with a blank, and the meet.
+fn blanks() {
+    let mut only = [0u8; 143];
+    power(&mut only, 1, 31, 15);
+    ask::compare(b"blank: X ", &X, b"");
+    ask::compare(b"blank: nothing ", &NOTHING, b"");
+    ask::compare(b"blank: only 0^31 ", &only, b"");
+    ask::sum(b"blank: sum with X ", &X, b"");
+    ask::meet(b"blank: meet with only 0^31 ", &only, b"");
+}
+
 fn main() {
     sample_9();
     sample_10();
@@ -132,4 +145,5 @@ fn main() {
     row_10();
     row_11();
     rows_12_and_13();
+    blanks();
 }

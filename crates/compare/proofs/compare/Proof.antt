@@ -1,59 +1,65 @@
--- `compare`: a refusal of the checks, or the answer of `settle`; the claims follow from the answer and the buffer.
-use mathlib.Core.Path.{sym, ap, _∙_}
+-- `compare`: both records as they are meant.
+use mathlib.Core.Path.{_≡_, sym, ap, subst, _∙_}
+use mathlib.Core.List.{List}
+use Prim.Native.Nat.{ℕ}
+use native.Mathlib.Omega.{arith}
 use denote.Ref.{now}
 use lib.ListN.{length}
-use Rattle.record.specs.Record.{automatonOf}
-use Rattle.record.specs.Outcome.{bufferOf}
-use Rattle.compare.specs.Compare.{differenceOf, comparedRefusal, comparedAs}
-use Rattle.compare.proofs.CompareLaws.{outcome-refused}
-use Rattle.compare.proofs.Claims.{claims}
+use Rattle.record.specs.Record.{lettersOf}
+use Rattle.record.specs.Outcome.{bufferIn}
+use Rattle.operands.proofs.MeantLaws.{blank-length, meant-blank, meant-itself}
+use Rattle.compare.specs.Compare.{compareOutcome, compareAnswer, Compares}
+use Rattle.compare.specs.declared.Compared.{Compared}
 use borrow.Author.Needs.{needs}
 use Rattle.compare.proofs.compare.Statement.{statement}
 use Rattle.compare.proofs.compare.Tie as tie
 
-check-pair-requires : tie.Need-check-pair-requires
-check-pair-requires c κs = search needs
+-- What is promised of two records that stand for themselves.
+abbrev Promises : List ℕ → List ℕ → List ℕ → Compared → List ℕ → Type 0
+Promises bs buf exit r cs = (r ≡ compareAnswer bs cs (length buf)) × ((exit ≡ bufferIn (compareOutcome bs cs) buf) × Compares bs cs buf exit r)
 
-enum-told : tie.Need-enum-told
-enum-told c = search needs
+blank-requires : tie.Need-blank-requires
+blank-requires c κs = search needs
 
-enum-told-2 : tie.Need-enum-told-2
-enum-told-2 c = search needs
+slice-aggregate-compare-meant : tie.Need-slice-aggregate-compare-meant
+slice-aggregate-compare-meant c = sym (ap length (c .before .blank .ensures) ∙ blank-length _)
 
-refuse-requires : tie.Need-refuse-requires
-refuse-requires c κs = search needs
-
-returns : tie.Need-returns
-returns c =
-    let a = c .before .before .before .before .before .before .before .args in
-    let told = c .before .enum-told2 .given in
-    let o = outcome-refused (now (a .first)) (now (a .second)) (length (now (a .word))) (told .0 .0) (told .0 .1 .0) (told .0 .1 .1 .0) (sym (c .before .before .before .check-pair .ensures) ∙ told .1) in
-    let answer = c .refuse .ensures ∙ ap comparedRefusal (told .1) ∙ sym (ap (comparedAs (differenceOf (now (a .first)) (now (a .second))) (automatonOf (now (a .first)))) o) in
-    let buffer = sym (ap (λ x. bufferOf x (now (a .word))) o) in
-    (answer, (buffer, claims (now (a .first)) (now (a .second)) (now (a .word)) (now (a .word)) (c .refuse .result) answer buffer))
-
--- Past the checks both records are well formed, over the same letters.
-settle-requires : tie.Need-settle-requires
-settle-requires c κs = sym (c .before .before .before .check-pair .ensures) ∙ c .before .enum-told .given .1
+compare-meant-requires : tie.Need-compare-meant-requires
+compare-meant-requires c κs = search needs
 
 same-length : tie.Need-same-length
 same-length c = search needs
 
+returns : tie.Need-returns
+returns c =
+    let t = c .before .before .before .before .before .before .before in
+    let a = t .before .before .before .before .args in
+    let b = c .before .before .before .before .before .blank in
+    let m = c .before .before .compare-meant in
+    subst (Promises (now (a .first)) (now (a .word)) (m .last .1 .1 .0) (m .result)) (meant-blank (lettersOf (now (a .first))) (b .last .1 .0) (now (a .second)) (omega (arith, t .if1 .taken)) (b .ensures)) (m .ensures)
+
+compare-meant-requires-2 : tie.Need-compare-meant-requires-2
+compare-meant-requires-2 c κs = search needs
+
+same-length-2 : tie.Need-same-length-2
+same-length-2 c = search needs
+
 returns-2 : tie.Need-returns-2
 returns-2 c =
-    let a = c .before .before .before .before .before .before .before .before .before .before .args in
-    let s = c .before .before .settle in
-    (s .ensures .0, (s .ensures .1, claims (now (a .first)) (now (a .second)) (now (a .word)) (s .last .1 .1 .0) (s .result) (s .ensures .0) (s .ensures .1)))
+    let e = c .before .before .before .before in
+    let a = e .before .before .before .before .args in
+    let m = c .before .before .compare-meant2 in
+    subst (Promises (now (a .first)) (now (a .word)) (m .last .1 .1 .0) (m .result)) (meant-itself (lettersOf (now (a .first))) (now (a .second)) (λ none. omega (arith, e .if1 .left))) (m .ensures)
 
 pub compare-spec : {M : Type 1} → statement M
 compare-spec =
     tie.close
     (tie.spec
-    check-pair-requires
-    enum-told
-    enum-told-2
-    refuse-requires
-    returns
-    settle-requires
+    blank-requires
+    slice-aggregate-compare-meant
+    compare-meant-requires
     same-length
+    returns
+    compare-meant-requires-2
+    same-length-2
     returns-2)

@@ -2,13 +2,17 @@
 use mathlib.Core.Path.{_≡_, sym, ap, subst, _∙_}
 use native.Mathlib.Omega.{arith}
 use denote.Ref.{now}
-use lib.ListN.{length, take}
+use lib.ListN.{length, take, replicate}
 use Rattle.automata.specs.Word.{Over}
 use Rattle.automata.proofs.Shortlex.{over-more}
+use Rattle.record.specs.Record.{lettersOf}
+use Rattle.record.specs.Outcome.{bufferIn}
 use Rattle.record.proofs.Refusals.{good-check}
 use Rattle.record.proofs.Outcome.{outcome-take}
+use Rattle.operands.specs.Meant.{meantOver}
 use Rattle.operands.proofs.PairLaws.{both-passed}
-use Rattle.compare.specs.Compare.{compareOutcome}
+use Rattle.operands.proofs.MeantLaws.{meant-itself}
+use Rattle.compare.specs.Compare.{compareOutcome, compareAnswer}
 use Rattle.compare.specs.declared.Compared.the-variants.{Same}
 use Rattle.lines.specs.Lines.{sameLine}
 use Rattle.lines.proofs.Building.{begins-as}
@@ -18,9 +22,17 @@ use borrow.Author.Needs.{needs}
 use Rattle.marking.proofs.answer_line.Statement.{statement}
 use Rattle.marking.proofs.answer_line.Tie as tie
 
+-- The answer has bytes, so it stands for itself.
+meant : (c : tie.After-compare) → meantOver (lettersOf (now (c .before .before .before .before .before .args .key))) (now (c .before .before .before .before .before .args .answer)) ≡ now (c .before .before .before .before .before .args .answer)
+meant c =
+    let s = c .before .before .before .before .before in
+    sym (meant-itself (lettersOf (now (s .args .key))) (now (s .args .answer)) (λ none. omega (arith, s .pre .1)))
+
 -- What the comparison tells, with room for 64 letters.
 verdict : (c : tie.After-compare) → Case (now (c .before .before .before .before .before .args .key)) (now (c .before .before .before .before .before .args .answer)) 64 (c .compare .result)
-verdict c = case (now (c .before .before .before .before .before .args .key)) (now (c .before .before .before .before .before .args .answer)) 64 (c .compare .result) (c .compare .ensures .0)
+verdict c =
+    let a = c .before .before .before .before .before .args in
+    case (now (a .key)) (now (a .answer)) 64 (c .compare .result) (c .compare .ensures .0 ∙ ap (λ x. compareAnswer (now (a .key)) x 64) (meant c))
 
 verdict-same : (c : tie.After-enum-told) → Case (now (c .before .before .before .before .before .before .before .before .args .key)) (now (c .before .before .before .before .before .before .before .before .args .answer)) 64 Same
 verdict-same c = subst (Case (now (c .before .before .before .before .before .before .before .before .args .key)) (now (c .before .before .before .before .before .before .before .before .args .answer)) 64) (c .enum-told .given .1) (verdict (c .before .before .before))
@@ -32,7 +44,10 @@ found c = subst (Case (now (c .before .before .before .before .before .before .b
 is-word : (c : tie.After-length) → take (c .length .given .0 .0) (c .before .before .before .compare .last .1 .1 .0) ≡ found c .difference .word
 is-word c =
     let f = found c in
-    ap (take (c .length .given .0 .0)) (c .before .before .before .compare .ensures .1 .0) ∙ outcome-take (compareOutcome (now (c .before .before .before .before .before .before .before .before .args .key)) (now (c .before .before .before .before .before .before .before .before .args .answer)) 64) (f .difference .word) _ (c .length .given .0 .0) (f .written) (f .count)
+    let d = c .before .before .before in
+    let a = d .before .before .before .before .before .args in
+    ap (take (c .length .given .0 .0)) (d .compare .ensures .1 .0 ∙ ap (λ x. bufferIn (compareOutcome (now (a .key)) x) (replicate 64 0)) (meant d))
+    ∙ outcome-take (compareOutcome (now (a .key)) (now (a .answer)) 64) (f .difference .word) (replicate 64 0) (c .length .given .0 .0) (f .written) (f .count)
 
 slice-aggregate-compare : tie.Need-slice-aggregate-compare
 slice-aggregate-compare c = search needs
@@ -69,7 +84,7 @@ differ-line-requires c κs =
     let f = found (c .before .before .before .before) in
     let w = is-word (c .before .before .before .before) in
     let small = good-check _ (both-passed _ _ (f .difference .both) .0) .front .letters in
-    (subst (Over 10) (sym w) (over-more (omega arith) (f .difference .word) (f .difference .first .over)), omega (arith, ap length w, f .difference .short .0), omega (arith, c .before .before .before .before .before .before .before .before .before .before .before .before .pre))
+    (subst (Over 10) (sym w) (over-more (omega arith) (f .difference .word) (f .difference .first .over)), omega (arith, ap length w, f .difference .short .0), omega (arith, c .before .before .before .before .before .before .before .before .before .before .before .before .pre .0))
 
 enum-known-number : tie.Need-enum-known-number
 enum-known-number c = search needs

@@ -9,11 +9,11 @@ use borrow.Author.Needs.{needs}
 use Rattle.marking.proofs.line_at.Statement.{statement}
 use Rattle.marking.proofs.line_at.Tie as tie
 
-slice-aggregate-part-line : tie.Need-slice-aggregate-part-line
-slice-aggregate-part-line c = search needs
+slice-aggregate-script-line : tie.Need-slice-aggregate-script-line
+slice-aggregate-script-line c = search needs
 
-part-line-requires : tie.Need-part-line-requires
-part-line-requires c κs = search needs
+script-line-requires : tie.Need-script-line-requires
+script-line-requires c κs = search needs
 
 slice-aggregate-give : tie.Need-slice-aggregate-give
 slice-aggregate-give c = search needs
@@ -27,7 +27,7 @@ same-length c = search needs
 returns : tie.Need-returns
 returns c =
     let a = c .before .before .before .before .before .before .before .before .before .before .args in
-    let begins = c .before .before .before .before .before .before .part-line .ensures in
+    let begins = c .before .before .before .before .before .before .script-line .ensures in
     let e = ap (fit (length (now (a .out)))) (begins .bytes) in (
       c .before .before .give .ensures .0 ∙ ap answerOf e,
       (
@@ -40,8 +40,8 @@ pub line-at-spec : {M : Type 1} → statement M
 line-at-spec =
     tie.close
     (tie.spec
-    slice-aggregate-part-line
-    part-line-requires
+    slice-aggregate-script-line
+    script-line-requires
     slice-aggregate-give
     give-requires
     same-length

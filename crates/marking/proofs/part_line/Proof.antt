@@ -1,68 +1,89 @@
 -- `part_line`: case by case.
-use mathlib.Core.Path.{sym}
+use mathlib.Core.Path.{_≡_, sym, ap, _∙_}
 use native.Mathlib.Omega.{arith}
 use denote.Ref.{now}
-use Rattle.lines.specs.Lines.{tooLongLine}
-use Rattle.marking.proofs.Cases.{long-first, long-later, line-key, line-answer}
-use Rattle.lines.proofs.Building.{begun-first, begun-line, begins-none, begins-as}
+use Rattle.script.specs.Script.{partAt}
+use Rattle.script.specs.declared.Part.the-variants.{Whole}
+use Rattle.script.proofs.Parts.{Stands, whole-stands}
+use Rattle.script.proofs.Whole.{length-whole}
+use Rattle.marking.specs.Marking.{partLine}
+use Rattle.lines.proofs.Building.{begins-none, begins-as}
 use borrow.Author.Needs.{needs}
 use Rattle.marking.proofs.part_line.Statement.{statement}
 use Rattle.marking.proofs.part_line.Tie as tie
 
-slice-aggregate-put : tie.Need-slice-aggregate-put
-slice-aggregate-put c = search needs
+-- The record that stands at the position.
+whole : (c : tie.After-start) → Whole (c .start .given .0 .0) (c .start .given .0 .1 .0) ≡ partAt (now (c .before .before .before .before .before .args .script)) (c .before .before .before .before .before .args .at)
+whole c = sym (c .start .given .1) ∙ c .before .before .part-at .ensures
 
-put-requires : tie.Need-put-requires
-put-requires c κs = search needs
+stands : (c : tie.After-start) → Stands (now (c .before .before .before .before .before .args .script)) (c .before .before .before .before .before .args .at) (c .start .given .0 .0) (c .start .given .0 .1 .0)
+stands c = whole-stands _ _ _ _ (sym (whole c))
+
+part-at-requires : tie.Need-part-at-requires
+part-at-requires c κs = search needs
+
+enum-known-start : tie.Need-enum-known-start
+enum-known-start c = search needs
+
+sub-record-line : tie.Need-sub-record-line
+sub-record-line c = let h = stands (c .before .before) in omega (arith, h .long)
+
+part-record-line-start : tie.Need-part-record-line-start
+part-record-line-start c = let h = stands (c .before .before) in omega (arith, h .long)
+
+part-record-line-end : tie.Need-part-record-line-end
+part-record-line-end c = stands (c .before .before) .within
+
+record-line-requires : tie.Need-record-line-requires
+record-line-requires c κs =
+    let k = c .before .before .before in
+    (k .before .before .before .before .before .pre, omega (arith, stands k .long, length-whole _ _ _ _ (sym (whole k))))
+
+enum-known-number : tie.Need-enum-known-number
+enum-known-number c = search needs
+
+refused-line-requires : tie.Need-refused-line-requires
+refused-line-requires c κs = search needs
+
+enum-told : tie.Need-enum-told
+enum-told c = search needs
 
 same-length : tie.Need-same-length
 same-length c = search needs
 
 returns : tie.Need-returns
 returns c =
-    let s = c .before .before .before .before .before .before .before .before .before in
-    begins-as (sym (long-first (now (s .args .script)) (s .args .index) (s .args .at) (omega arith) (c .before .before .before .before .before .if2 .taken)))
-    (begun-line {before = now (s .args .line)} (begun-first tooLongLine (c .before .before .put .ensures)) (omega (arith, s .pre)))
-
-returns-2 : tie.Need-returns-2
-returns-2 c =
-    let a = c .before .before .before .before .args in
-    begins-as (sym (long-later (now (a .script)) (a .index) (a .at) (omega arith) (c .if2 .left))) (begins-none (now (a .line)))
-
-key-part-line-requires : tie.Need-key-part-line-requires
-key-part-line-requires c κs = search needs
+    let a = c .before .before .before .before .before .before .before .before .before .before .before .args in
+    begins-as (ap (partLine (now (a .script)) (a .index)) (whole (c .before .before .before .before .before .before))) (c .before .before .record-line .ensures)
 
 same-length-2 : tie.Need-same-length-2
 same-length-2 c = search needs
 
+returns-2 : tie.Need-returns-2
+returns-2 c =
+    let a = c .before .before .before .before .before .before .before .before .before .before .args in
+    begins-as (ap (partLine (now (a .script)) (a .index)) (sym (c .before .before .before .before .before .number .given .1) ∙ c .before .before .before .before .before .before .before .part-at .ensures)) (c .before .before .refused-line .ensures)
+
 returns-3 : tie.Need-returns-3
 returns-3 c =
-    let a = c .before .before .before .before .before .before .before .before .args in
-    begins-as (sym (line-key (now (a .script)) (a .index) (a .at) (omega arith) (c .before .before .before .before .if3 .taken))) (c .before .before .key-part-line .ensures)
-
-answer-part-line-requires : tie.Need-answer-part-line-requires
-answer-part-line-requires c κs = search needs
-
-same-length-3 : tie.Need-same-length-3
-same-length-3 c = search needs
-
-returns-4 : tie.Need-returns-4
-returns-4 c =
-    let a = c .before .before .before .before .before .before .before .before .args in
-    begins-as (sym (line-answer (now (a .script)) (a .index) (a .at) (omega arith) (c .before .before .before .before .if3 .left))) (c .before .before .answer-part-line .ensures)
+    let a = c .before .before .before .before .before .args in
+    begins-as (ap (partLine (now (a .script)) (a .index)) (sym (c .enum-told .given .1) ∙ c .before .before .part-at .ensures)) (begins-none (now (a .line)))
 
 pub part-line-spec : {M : Type 1} → statement M
 part-line-spec =
     tie.close
     (tie.spec
-    slice-aggregate-put
-    put-requires
+    part-at-requires
+    enum-known-start
+    sub-record-line
+    part-record-line-start
+    part-record-line-end
+    record-line-requires
+    enum-known-number
+    refused-line-requires
+    enum-told
     same-length
     returns
-    returns-2
-    key-part-line-requires
     same-length-2
-    returns-3
-    answer-part-line-requires
-    same-length-3
-    returns-4)
+    returns-2
+    returns-3)

@@ -1,6 +1,8 @@
 -- `nxa_compare`: the reply of what the service answers; its claims are of the answer that a host reads off the reply.
 use denote.Ref.{now}
 use lib.ListN.{length}
+use Rattle.record.specs.Record.{lettersOf}
+use Rattle.operands.specs.Meant.{meantOver}
 use Rattle.compare.specs.Compare.{compareAnswer, Compares}
 use Rattle.replies.specs.Reply.{ofCompared, comparedIn}
 use Rattle.nxa.proofs.Granted.{told}
@@ -22,7 +24,7 @@ returns : tie.Need-returns
 returns c =
     let a = c .before .before .before .before .before .before .before .before .args in
     let bs = now (a .first) in
-    let cs = now (a .second) in
+    let cs = meantOver (lettersOf bs) (now (a .second)) in
     let buf = now (a .word) in
     let m = c .before .before .before .compare in
     let back = compared-back bs cs (length buf) (m .result) (m .ensures .0) in

@@ -1,7 +1,9 @@
 -- `nxa_sum`: the reply of what the service answers; its claims are of the answer that a host reads off the reply.
 use denote.Ref.{now}
 use lib.ListN.{length}
+use Rattle.record.specs.Record.{lettersOf}
 use Rattle.record.specs.Outcome.{answerIn}
+use Rattle.operands.specs.Meant.{meantOver}
 use Rattle.operations.specs.Operations.{sumOutcome, Sums}
 use Rattle.replies.specs.Reply.{ofWritten, writtenIn}
 use Rattle.nxa.proofs.Granted.{written-back, told}
@@ -23,7 +25,7 @@ returns : tie.Need-returns
 returns c =
     let a = c .before .before .before .before .before .before .before .before .args in
     let bs = now (a .first) in
-    let cs = now (a .second) in
+    let cs = meantOver (lettersOf bs) (now (a .second)) in
     let buf = now (a .out) in
     let w = c .before .before .before .sum in
     let back = written-back (sumOutcome bs cs (length buf)) (w .result) (sum-reasoned bs cs (length buf)) (w .ensures .0) in

@@ -1,64 +1,65 @@
--- `sum`: the answer and the buffer by the checks and by the result; the claims follow from both.
-use mathlib.Core.Path.{refl, sym, ap, _∙_}
+-- `sum`: both records as they are meant.
+use mathlib.Core.Path.{_≡_, sym, ap, subst, _∙_}
+use mathlib.Core.List.{List}
+use Prim.Native.Nat.{ℕ}
+use native.Mathlib.Omega.{arith}
 use denote.Ref.{now}
 use lib.ListN.{length}
-use Rattle.record.specs.Claims.{Operands}
-use Rattle.operands.proofs.PairLaws.{both-passed}
-use Rattle.results.specs.Results.{pairRefusal}
-use Rattle.operations.proofs.OperationLaws.{sum-refused, sum-service}
+use Rattle.record.specs.Record.{lettersOf}
+use Rattle.record.specs.Outcome.{answerIn, bufferIn}
+use Rattle.record.specs.declared.Written.{Written}
+use Rattle.operands.proofs.MeantLaws.{blank-length, meant-blank, meant-itself}
+use Rattle.operations.specs.Operations.{sumOutcome, Sums}
 use borrow.Author.Needs.{needs}
 use Rattle.operations.proofs.sum.Statement.{statement}
 use Rattle.operations.proofs.sum.Tie as tie
 
--- Past the checks both records are well formed, over the same letters.
-passed : (c : tie.After-enum-told) → Operands (now (c .before .before .before .before .before .before .args .first)) (now (c .before .before .before .before .before .before .args .second))
-passed c = both-passed _ _ (sym (c .before .before .check-pair .ensures) ∙ c .enum-told .given .1)
+-- What is promised of two records that stand for themselves.
+abbrev Promises : List ℕ → List ℕ → List ℕ → Written → List ℕ → Type 0
+Promises bs buf exit r cs = (r ≡ answerIn (sumOutcome bs cs) buf) × ((exit ≡ bufferIn (sumOutcome bs cs) buf) × Sums bs cs exit r)
 
-check-pair-requires : tie.Need-check-pair-requires
-check-pair-requires c κs = search needs
+blank-requires : tie.Need-blank-requires
+blank-requires c κs = search needs
 
-enum-told : tie.Need-enum-told
-enum-told c = search needs
+slice-aggregate-sum-meant : tie.Need-slice-aggregate-sum-meant
+slice-aggregate-sum-meant c = sym (ap length (c .before .blank .ensures) ∙ blank-length _)
 
-enum-told-2 : tie.Need-enum-told-2
-enum-told-2 c = search needs
-
-refuse-requires : tie.Need-refuse-requires
-refuse-requires c κs = search needs
-
-returns : tie.Need-returns
-returns c =
-    let a = c .before .before .before .before .before .before .before .args in
-    let told = c .before .enum-told2 .given in
-    let o = sum-refused (now (a .first)) (now (a .second)) (length (now (a .out))) (told .0 .0) (told .0 .1 .0) (told .0 .1 .1 .0) (sym (c .before .before .before .check-pair .ensures) ∙ told .1) in
-    sum-service (now (a .first)) (now (a .second)) (now (a .out)) .0 (told .0 .0) (told .0 .1 .0) (told .0 .1 .1 .0) (c .refuse .result) o (c .refuse .ensures ∙ ap pairRefusal (told .1))
-
-add-records-requires : tie.Need-add-records-requires
-add-records-requires c κs = (passed (c .before), refl)
-
-finish-requires : tie.Need-finish-requires
-finish-requires c κs = search needs
+sum-meant-requires : tie.Need-sum-meant-requires
+sum-meant-requires c κs = search needs
 
 same-length : tie.Need-same-length
 same-length c = search needs
 
+returns : tie.Need-returns
+returns c =
+    let t = c .before .before .before .before .before .before .before in
+    let a = t .before .before .before .before .args in
+    let b = c .before .before .before .before .before .blank in
+    let m = c .before .before .sum-meant in
+    subst (Promises (now (a .first)) (now (a .out)) (m .last .1 .1 .0) (m .result)) (meant-blank (lettersOf (now (a .first))) (b .last .1 .0) (now (a .second)) (omega (arith, t .if1 .taken)) (b .ensures)) (m .ensures)
+
+sum-meant-requires-2 : tie.Need-sum-meant-requires-2
+sum-meant-requires-2 c κs = search needs
+
+same-length-2 : tie.Need-same-length-2
+same-length-2 c = search needs
+
 returns-2 : tie.Need-returns-2
 returns-2 c =
-    let b = c .before .before .before .before .before in
-    let a = b .before .before .before .before .before .before .before .before .args in
-    let f = c .before .before .finish in
-    sum-service (now (a .first)) (now (a .second)) (now (a .out)) .1 (b .add-records .last .1 .1 .0) (b .add-records .result) (f .last .1 .1 .0) (f .result) (passed (b .before .before)) (b .add-records .ensures) (f .ensures .0) (f .ensures .1)
+    let e = c .before .before .before .before in
+    let a = e .before .before .before .before .args in
+    let m = c .before .before .sum-meant2 in
+    subst (Promises (now (a .first)) (now (a .out)) (m .last .1 .1 .0) (m .result)) (meant-itself (lettersOf (now (a .first))) (now (a .second)) (λ none. omega (arith, e .if1 .left))) (m .ensures)
 
 pub sum-spec : {M : Type 1} → statement M
 sum-spec =
     tie.close
     (tie.spec
-    check-pair-requires
-    enum-told
-    enum-told-2
-    refuse-requires
-    returns
-    add-records-requires
-    finish-requires
+    blank-requires
+    slice-aggregate-sum-meant
+    sum-meant-requires
     same-length
+    returns
+    sum-meant-requires-2
+    same-length-2
     returns-2)
