@@ -22,7 +22,7 @@ blank-requires : tie.Need-blank-requires
 blank-requires c κs = search needs
 
 slice-aggregate-compare-meant : tie.Need-slice-aggregate-compare-meant
-slice-aggregate-compare-meant c = sym (ap length (c .before .blank .ensures) ∙ blank-length _)
+slice-aggregate-compare-meant c = let l = sym (ap length (c .before .blank .ensures) ∙ blank-length _) in search needs
 
 compare-meant-requires : tie.Need-compare-meant-requires
 compare-meant-requires c κs = search needs

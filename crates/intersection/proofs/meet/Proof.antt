@@ -22,7 +22,7 @@ blank-requires : tie.Need-blank-requires
 blank-requires c κs = search needs
 
 slice-aggregate-meet-meant : tie.Need-slice-aggregate-meet-meant
-slice-aggregate-meet-meant c = sym (ap length (c .before .blank .ensures) ∙ blank-length _)
+slice-aggregate-meet-meant c = let l = sym (ap length (c .before .blank .ensures) ∙ blank-length _) in search needs
 
 meet-meant-requires : tie.Need-meet-meant-requires
 meet-meant-requires c κs = search needs

@@ -22,7 +22,7 @@ blank-requires : tie.Need-blank-requires
 blank-requires c κs = search needs
 
 slice-aggregate-sum-meant : tie.Need-slice-aggregate-sum-meant
-slice-aggregate-sum-meant c = sym (ap length (c .before .blank .ensures) ∙ blank-length _)
+slice-aggregate-sum-meant c = let l = sym (ap length (c .before .blank .ensures) ∙ blank-length _) in search needs
 
 sum-meant-requires : tie.Need-sum-meant-requires
 sum-meant-requires c κs = search needs
