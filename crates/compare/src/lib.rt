@@ -5,6 +5,7 @@ ghost use Rattle.record.specs.Outcome.{bufferIn};
 ghost use Rattle.operands.specs.Meant.{asMeant};
 ghost use Rattle.operands.specs.Operands.{pairOf};
 ghost use Rattle.compare.specs.Compare.{compareOutcome, compareAnswer, sideOf, comparedRefusal, Compares};
+use operands::BLANK;
 use operands::Pair;
 use verdict::Verdict;
 
@@ -107,7 +108,7 @@ pub fn compare(first: &[u8], second: &[u8], word: &mut [u8]) -> Compared
     ensures claims { λ r. ⌜ asMeant Compares (now (first .entry)) (now (second .entry)) (now (word .entry)) (now (word .exit)) r ⌝ }
 {
     if second.len() == 0 {
-        let mut b = [0u8; 15];
+        let mut b = [0u8; BLANK];
         operands::blank(first, &mut b);
         return compare_meant(&*first, &b, word);
     }

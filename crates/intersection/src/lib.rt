@@ -12,6 +12,7 @@ ghost use Rattle.operands.specs.Meant.{asMeant};
 ghost use Rattle.results.specs.Built.{heldWords, Built};
 ghost use Rattle.intersection.specs.Meet.{meetOutcome, Meets};
 ghost use Rattle.intersection.specs.Kron.{kron, crossed};
+use operands::BLANK;
 use operands::Pair;
 use record::Written;
 use rows::Machine;
@@ -120,7 +121,7 @@ pub fn meet(first: &[u8], second: &[u8], out: &mut [u8]) -> Written
     ensures claims { λ r. ⌜ asMeant Meets (now (first .entry)) (now (second .entry)) (now (out .exit)) r ⌝ }
 {
     if second.len() == 0 {
-        let mut b = [0u8; 15];
+        let mut b = [0u8; BLANK];
         operands::blank(first, &mut b);
         return meet_meant(first, &b, out);
     }

@@ -1,10 +1,10 @@
--- What a second record stands for: its bytes, and that for 0 bytes it is the minimal record of no word.
+-- What a second record stands for: the bytes of a blank's record, when bytes stand for themselves, and what a blank is beside a record.
 use mathlib.Core.Path.{_≡_, refl, sym, ap, subst, _∙_}
 use mathlib.Core.Bool.{false}
 use mathlib.Core.List.{List, [], _∷_}
-use Prim.Native.Nat.{ℕ, zero, suc, _≤_, _<_}
+use Prim.Native.Nat.{ℕ, _≤_}
 use native.Mathlib.Omega.{arith}
-use lib.ListN.{length}
+use lib.ListN.{length, drop-of-length-le}
 use Rattle.automata.specs.Minimal.{SameBits}
 use Rattle.automata.specs.MinimalOf.{minimalOf}
 use Rattle.automata.specs.Operations.{stateless}
@@ -25,13 +25,9 @@ use Rattle.operands.proofs.PairLaws.{both-pass}
 
 -- ---- the bytes of a blank's record
 
-nothing : (xs : List ℕ) → length xs ≡ 0 → xs ≡ []
-nothing [] e = refl
-nothing (x ∷ xs) e = absurd (omega arith)
-
 -- With no states there are no rows.
 no-rows : (a : ℕ) (f : ℕ → ℕ → ℕ) → rowsOf a 0 f ≡ []
-no-rows a f = nothing (rowsOf a 0 f) (omega (arith, rows-length a 0 f))
+no-rows a f = drop-of-length-le (rowsOf a 0 f) {i = 0} (omega (arith, rows-length a 0 f))
 
 -- The head, then I and F, which are 0.
 pub blank-bytes : (a : ℕ) → 0x4E ∷ 0x58 ∷ 0x41 ∷ 1 ∷ 0 ∷ 0 ∷ a ∷ 0 ∷ 0 ∷ 0 ∷ 0 ∷ 0 ∷ 0 ∷ 0 ∷ 0 ∷ [] ≡ blankOf a

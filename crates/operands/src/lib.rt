@@ -4,9 +4,11 @@ ghost use Rattle.record.specs.Record.{lettersOf};
 ghost use Rattle.operands.specs.Meant.{blankOf};
 ghost use Rattle.operands.specs.Operands.{pairOf, named};
 use record::Checked;
+use record::ROWS_AT;
+use record::VERSION;
 
-// The bytes of a record with no states.
-pub type Blank = [u8; 15];
+// The bytes of a record with no states: it ends where its rows would start.
+pub const BLANK: usize = ROWS_AT;
 
 // The byte of a record that has the number of its letters; 0 where the record ends before it.
 fn letters(bytes: &[u8]) -> u8
@@ -20,11 +22,12 @@ fn letters(bytes: &[u8]) -> u8
 
 // The record that a second one of 0 bytes stands for: no states, over the first one's letters. It is written whatever the first record is,
 // since the check of the first comes before all else.
-pub fn blank(first: &[u8], out: &mut Blank)
+pub fn blank(first: &[u8], out: &mut [u8; BLANK])
     ensures { λ _. ⌜ now (out .exit) ≡ blankOf (lettersOf (now (first .entry))) ⌝ }
 {
     let a = letters(first);
-    *out = [0x4E, 0x58, 0x41, 1, 0, 0, a, 0, 0, 0, 0, 0, 0, 0, 0];
+    let v = VERSION as u8;
+    *out = [0x4E, 0x58, 0x41, v, 0, 0, a, 0, 0, 0, 0, 0, 0, 0, 0];
 }
 
 // What the checks of two records find: both pass, over the same letters, or the refusal.

@@ -13,6 +13,7 @@ ghost use Rattle.record.specs.Claims.{Operands};
 ghost use Rattle.operands.specs.Meant.{asMeant};
 ghost use Rattle.results.specs.Built.{heldWords, Built};
 ghost use Rattle.operations.specs.Operations.{sumOutcome, sumWords, unaryLanguage, unaryOutcome, complementOutcome, mirrorOutcome, Sums, Operates, Complements, Mirrors};
+use operands::BLANK;
 use operands::Pair;
 use record::Checked;
 use record::Written;
@@ -140,7 +141,7 @@ pub fn sum(first: &[u8], second: &[u8], out: &mut [u8]) -> Written
     ensures claims { λ r. ⌜ asMeant Sums (now (first .entry)) (now (second .entry)) (now (out .exit)) r ⌝ }
 {
     if second.len() == 0 {
-        let mut b = [0u8; 15];
+        let mut b = [0u8; BLANK];
         operands::blank(first, &mut b);
         return sum_meant(first, &b, out);
     }

@@ -9,8 +9,11 @@ use Rattle.operands.proofs.blank.Tie as tie
 letters-requires : tie.Need-letters-requires
 letters-requires c κs = search needs
 
+cast-v : tie.Need-cast-v
+cast-v c = search needs
+
 returns : tie.Need-returns
 returns c = blank-bytes (c .before .letters .result) ∙ ap blankOf (c .before .letters .ensures)
 
 pub blank-spec : {M : Type 1} → statement M
-blank-spec = tie.close (tie.spec letters-requires returns)
+blank-spec = tie.close (tie.spec letters-requires cast-v returns)
