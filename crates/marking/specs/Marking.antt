@@ -2,6 +2,7 @@
 --   dimensionIn bs            the dimension of a record's language
 --   keyOf s                   the bytes of a script's first record
 --   recordLine s index bs     the line of a record that stands whole, as that of an index
+--   partLine s index p        the line of a part of the script: of a record, of a refusal, or none at the end
 --   lineAt s index at         the line of what stands at a position, as that of an index
 --   markLine s index          the line of an index, no bytes where there is none
 --   markOutcome s index room  what the service does with a buffer of so many bytes

@@ -1,4 +1,5 @@
--- Sum, complement and mirror (01: every language operation writes the minimal record of its result; rows 1 to 8, then 11, then 12).
+-- Sum, complement and mirror (01: every language operation writes the minimal record of its result; rows 1 to 8, then 11, then 12). The
+-- contract of the sum puts its records in as they are meant (`asMeant`, operands/specs/Meant).
 --   sumOutcome bs cs room       what each service does with a buffer of so many bytes
 --   unaryOutcome k bs room      the operation k on one record: complement or mirror
 --   complementOutcome bs room
