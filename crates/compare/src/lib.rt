@@ -83,7 +83,7 @@ fn settle(first: &[u8], second: &[u8], word: &mut [u8]) -> Compared
     Compared::Differs { length: n, side: s }
 }
 
-// The comparison of two records that stand for themselves.
+// The comparison of two records as they are meant: each stands for itself.
 fn compare_meant(first: &[u8], second: &[u8], word: &mut [u8]) -> Compared
     ensures answer { λ r. ⌜ r ≡ compareAnswer (now (first .entry)) (now (second .entry)) (length (now (word .entry))) ⌝ }
     ensures buffer { λ _. ⌜ now (word .exit) ≡ bufferIn (compareOutcome (now (first .entry)) (now (second .entry))) (now (word .entry)) ⌝ }

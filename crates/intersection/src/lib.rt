@@ -85,7 +85,7 @@ fn product(t: &Table, g: Machine, u: &Table, h: Machine, s: &mut Table) -> Machi
     }
 }
 
-// The meet of two records that stand for themselves.
+// The meet of two records as they are meant: each stands for itself.
 fn meet_meant(first: &[u8], second: &[u8], out: &mut [u8]) -> Written
     ensures answer { λ r. ⌜ r ≡ answerIn (meetOutcome (now (first .entry)) (now (second .entry))) (now (out .entry)) ⌝ }
     ensures buffer { λ _. ⌜ now (out .exit) ≡ bufferIn (meetOutcome (now (first .entry)) (now (second .entry))) (now (out .entry)) ⌝ }

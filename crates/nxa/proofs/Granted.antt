@@ -1,18 +1,18 @@
 -- Number 0 grants: no refusal has it, so a host reads the answer off the reply.
 use mathlib.Core.Path.{_≡_, refl, sym, ap, subst, _∙_}
-use mathlib.Core.Bool.{Bool, true, false, cond, not, _||_}
+use mathlib.Core.Bool.{Bool, true, false, cond}
 use mathlib.Core.List.{List}
-use Prim.Native.Nat.{ℕ, zero, suc, _+_, _*_, _≤_, _^_}
+use Prim.Native.Nat.{ℕ, _≤_}
 use native.Mathlib.Omega.{arith}
 use borrow.Author.Tests.{ne-eqb}
-use lib.Dec.{ltb, leb, eqb}
-use lib.ListN.{length, getD}
-use Rattle.record.specs.Bytes.{number}
-use Rattle.record.specs.Record.{version, maxStates, maxLetters, header, rowBytes, initialAt, statesOf, lettersOf, needOf, row, andThen, frontOf, strayFrom, checkOf, WellFormed}
+use lib.Dec.{ltb, eqb}
+use lib.ListN.{length}
+use Rattle.record.specs.Record.{lettersOf, checkOf, WellFormed}
 use Rattle.record.specs.Outcome.{Outcome, refused, wrote, answerOf, checked, fit}
 use Rattle.record.specs.declared.Checked.{Checked}
 use Rattle.record.specs.declared.Checked.the-variants.{Good, Refused}
 use Rattle.record.specs.declared.Written.{Written}
+use Rattle.record.proofs.Numbers.{From, check-numbered}
 use Rattle.operands.specs.Operands.{named, pairOf, afterPair}
 use Rattle.operands.specs.declared.Pair.{Pair}
 use Rattle.operands.specs.declared.Pair.the-variants.{Both, Refused as NotBoth}
@@ -25,46 +25,7 @@ use Rattle.replies.specs.Reply.{ofChecked, ofWritten, ofMinimised, writtenIn, m
 
 -- ---- the record check
 
--- A refusal has a number from 1 on.
-abbrev pub Numbered : Checked → Type 0
-Numbered c = (k p : ℕ) → c ≡ Refused k p → 1 ≤ k
-
-good : Numbered Good
-good k p e = let z : _≡_ {A = ℕ} 0 1 = cc in absurd (omega arith)
-
-row-numbered : (b : Bool) (code place : ℕ) (rest : Checked) → 1 ≤ code → Numbered rest → Numbered (row b code place rest)
-row-numbered true code place rest h r k p e = let s : code ≡ k = cc in omega arith
-row-numbered false code place rest h r k p e = r k p e
-
-then-numbered : (c rest : Checked) → Numbered c → Numbered rest → Numbered (andThen c rest)
-then-numbered Good rest n r = r
-then-numbered (Refused code place) rest n r = n
-
-front-numbered : (bs : List ℕ) → Numbered (frontOf bs)
-unfolding frontOf
-front-numbered bs =
-    row-numbered (ltb (length bs) header) 1 (length bs) _ (omega arith)
-    (row-numbered (not (eqb (getD bs 0 0) 0x4E)) 2 0 _ (omega arith)
-    (row-numbered (not (eqb (getD bs 1 0) 0x58)) 2 1 _ (omega arith)
-    (row-numbered (not (eqb (getD bs 2 0) 0x41)) 2 2 _ (omega arith)
-    (row-numbered (not (eqb (number 2 bs 3) version)) 3 3 _ (omega arith)
-    (row-numbered (ltb maxStates (statesOf bs)) 4 5 _ (omega arith)
-    (row-numbered (eqb (lettersOf bs) 0 || ltb maxLetters (lettersOf bs)) 5 6 Good (omega arith) good))))))
-
-stray-numbered : (w n : ℕ) (bs : List ℕ) (k p : ℕ) → Numbered (strayFrom w n bs k p)
-unfolding strayFrom
-stray-numbered w n bs zero p = good
-stray-numbered w n bs (suc k) p =
-    row-numbered (leb (2 ^ n) (number w bs p)) 7 p (strayFrom w n bs k (p + w)) (omega arith) (stray-numbered w n bs k (p + w))
-
-pub check-numbered : (bs : List ℕ) → Numbered (checkOf bs)
-unfolding checkOf
-check-numbered bs =
-    then-numbered (frontOf bs) _ (front-numbered bs)
-    (row-numbered (not (eqb (length bs) (needOf bs))) 6 (needOf bs) _ (omega arith)
-    (stray-numbered rowBytes (statesOf bs) bs (2 + lettersOf bs * statesOf bs) initialAt))
-
-good-numbered : (c : Checked) → Numbered c → ofChecked c .number ≡ 0 → c ≡ Good
+good-numbered : (c : Checked) → From 1 c → ofChecked c .number ≡ 0 → c ≡ Good
 good-numbered Good n e = refl
 good-numbered (Refused code place) n e = absurd (omega (arith, n code place refl))
 
@@ -81,7 +42,7 @@ abbrev pub Reasoned : Outcome → Type 0
 Reasoned (refused code which place) = 1 ≤ code
 Reasoned (wrote out) = Unit {0}
 
-pub checked-reasoned : (c : Checked) (which : ℕ) (rest : Outcome) → Numbered c → Reasoned rest → Reasoned (checked c which rest)
+pub checked-reasoned : (c : Checked) (which : ℕ) (rest : Outcome) → From 1 c → Reasoned rest → Reasoned (checked c which rest)
 checked-reasoned Good which rest n r = r
 checked-reasoned (Refused code place) which rest n r = n code place refl
 
@@ -102,7 +63,7 @@ abbrev Paired : Pair → Type 0
 Paired Both = Unit {0}
 Paired (NotBoth code which place) = 1 ≤ code
 
-named-paired : (c : Checked) (which : ℕ) (rest : Pair) → Numbered c → Paired rest → Paired (named c which rest)
+named-paired : (c : Checked) (which : ℕ) (rest : Pair) → From 1 c → Paired rest → Paired (named c which rest)
 named-paired Good which rest n r = r
 named-paired (Refused code place) which rest n r = n code place refl
 

@@ -7,11 +7,12 @@ use Rattle.automata.specs.Automaton.{Automaton}
 use Rattle.automata.specs.MinimalOf.{minimalOf, dimensionOf}
 use Rattle.automata.specs.Operations.{sumOf, meetOf}
 use Rattle.record.specs.Record.{maxStates, lettersOf, checkOf, automatonOf, encode}
+use Rattle.record.proofs.Numbers.{check-numbered}
 use Rattle.results.specs.Results.{resultOf}
 use Rattle.operations.specs.Operations.{sumOutcome, unaryOf, unaryOutcome}
 use Rattle.operations.specs.declared.Unary.{Unary}
 use Rattle.intersection.specs.Meet.{maxProduct, meetOutcome}
-use Rattle.nxa.proofs.Granted.{check-numbered, Reasoned, fit-reasoned, limit-reasoned, checked-reasoned, pair-reasoned}
+use Rattle.nxa.proofs.Granted.{Reasoned, fit-reasoned, limit-reasoned, checked-reasoned, pair-reasoned}
 
 result-reasoned : (a : ℕ) (A : Automaton) (room : ℕ) → Reasoned (resultOf a A room)
 unfolding resultOf

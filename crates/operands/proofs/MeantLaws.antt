@@ -2,7 +2,7 @@
 use mathlib.Core.Path.{_≡_, refl, sym, ap, subst, _∙_}
 use mathlib.Core.Bool.{false}
 use mathlib.Core.List.{List, [], _∷_}
-use Prim.Native.Nat.{ℕ, _≤_}
+use Prim.Native.Nat.{ℕ, _<_, _≤_}
 use native.Mathlib.Omega.{arith}
 use lib.ListN.{length, drop-of-length-le}
 use Rattle.automata.specs.Minimal.{SameBits}
@@ -12,16 +12,17 @@ use Rattle.automata.specs.Fields.{rowsOf}
 use Rattle.automata.proofs.Dimension.{dimension-least, minimal-states}
 use Rattle.automata.proofs.Fields.{rows-length, bits-fields}
 use Rattle.record.specs.Bytes.{bytesOf, allBytes}
-use Rattle.record.specs.Record.{maxLetters, lettersOf, WellFormed, languageOf, encode}
+use Rattle.record.specs.Record.{maxLetters, header, lettersOf, WellFormed, languageOf, encode}
 use Rattle.record.specs.Outcome.{Outcome, answerIn, bufferIn}
 use Rattle.record.specs.Claims.{Operands, MinimalRecord}
 use Rattle.record.proofs.Refusals.{good-check}
+use Rattle.record.proofs.Numbers.{check-short, short-check}
 use Rattle.record.proofs.Encode.{letters-encode, check-encode, fields-encode}
 use Rattle.record.proofs.Claims.{minimal-encode}
 use Rattle.operands.specs.Meant.{blankOf, meantOver, asMeant}
 use Rattle.operands.specs.Operands.{pairOf}
-use Rattle.operands.specs.declared.Pair.the-variants.{Both}
-use Rattle.operands.proofs.PairLaws.{both-pass}
+use Rattle.operands.specs.declared.Pair.the-variants.{Both, Refused}
+use Rattle.operands.proofs.PairLaws.{second-met, second-refused, both-pass}
 
 -- ---- the bytes of a blank's record
 
@@ -97,3 +98,19 @@ blank-operands bs good =
 -- A blank is never refused.
 pub blank-passes : (bs : List ℕ) → WellFormed bs → asMeant pairOf bs [] ≡ Both
 blank-passes bs good = let p = blank-operands bs good in both-pass bs (blankOf (lettersOf bs)) (p .0) (p .1) (p .2)
+
+-- ---- refusal 1 of the second record
+
+-- It comes exactly with 1 to 6 bytes, its place their number.
+module _ (bs cs : List ℕ) (good : WellFormed bs) where
+  pub second-short : 0 < length cs → length cs < header → asMeant pairOf bs cs ≡ Refused 1 2 (length cs)
+  second-short some few =
+      subst (λ x. pairOf bs x ≡ Refused 1 2 (length cs)) (meant-itself (lettersOf bs) cs (λ none. omega arith))
+      (second-met bs cs good (check-short cs few))
+
+  pub short-second : (place : ℕ) → asMeant pairOf bs cs ≡ Refused 1 2 place → (0 < length cs) × (length cs < header) × (place ≡ length cs)
+  short-second place e = go cs e
+    where
+      go : (cs : List ℕ) → asMeant pairOf bs cs ≡ Refused 1 2 place → (0 < length cs) × (length cs < header) × (place ≡ length cs)
+      go [] q = let z = sym (blank-passes bs good) ∙ q in let y : _≡_ {A = ℕ} 0 1 = cc in absurd (omega arith)
+      go (c ∷ cs) q = let t = short-check (c ∷ cs) place (second-refused bs (c ∷ cs) good 1 place (omega arith) q) in (omega arith, t .0, t .1)

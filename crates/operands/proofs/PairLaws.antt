@@ -1,8 +1,8 @@
 -- The checks of two records, case by case; and what both have passed.
-use mathlib.Core.Path.{_≡_, refl}
+use mathlib.Core.Path.{_≡_, refl, sym, ap, _∙_}
 use mathlib.Core.Bool.{Bool, true, false, cond}
 use mathlib.Core.List.{List}
-use Prim.Native.Nat.{ℕ}
+use Prim.Native.Nat.{ℕ, _<_}
 use native.Mathlib.Omega.{arith}
 use borrow.Author.Tests.{eq-eqb, ne-eqb, eqb-true}
 use lib.Dec.{eqb}
@@ -49,6 +49,21 @@ module _ (bs cs : List ℕ) where
       one : (c : Checked) → checkOf bs ≡ c → named c 1 (named (checkOf cs) 2 (cond (eqb (lettersOf bs) (lettersOf cs)) Both (Refused 8 2 6))) ≡ Both → Operands bs cs
       one Good h q = let t = two (checkOf cs) refl q in (h, t .0, t .1)
       one (Bad number place) h q = let z : _≡_ {A = ℕ} 0 1 = cc in absurd (omega arith)
+
+-- A refusal of the second record, other than row 8, is that of its own check.
+pub second-refused : (bs cs : List ℕ) → WellFormed bs → (number place : ℕ) → number < 8 → pairOf bs cs ≡ Refused number 2 place → checkOf cs ≡ Bad number place
+unfolding pairOf
+second-refused bs cs good number place few e = two (checkOf cs) (sym (ap (λ c. named c 1 (named (checkOf cs) 2 (cond (eqb (lettersOf bs) (lettersOf cs)) Both (Refused 8 2 6)))) good) ∙ e)
+  where
+    three : (b : Bool) → cond b Both (Refused 8 2 6) ≡ Refused number 2 place → ⊥
+    three true q = let z : _≡_ {A = ℕ} 0 1 = cc in omega arith
+    three false q =
+        let z : 8 ≡ number = cc in
+        omega arith
+
+    two : (c : Checked) → named c 2 (cond (eqb (lettersOf bs) (lettersOf cs)) Both (Refused 8 2 6)) ≡ Refused number 2 place → c ≡ Bad number place
+    two Good q = absurd (three (eqb (lettersOf bs) (lettersOf cs)) q)
+    two (Bad n p) q = cc
 
 -- A refusal of the checks of two records names one of them.
 pub pair-named : (bs cs : List ℕ) (number place : ℕ) → pairOf bs cs ≡ Refused number 0 place → ⊥

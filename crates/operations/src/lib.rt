@@ -116,7 +116,7 @@ fn turn_record(bytes: &[u8], s: &mut Table) -> Machine
     machine(n, a, f, i)
 }
 
-// The sum of two records that stand for themselves.
+// The sum of two records as they are meant: each stands for itself.
 fn sum_meant(first: &[u8], second: &[u8], out: &mut [u8]) -> Written
     ensures answer { λ r. ⌜ r ≡ answerIn (sumOutcome (now (first .entry)) (now (second .entry))) (now (out .entry)) ⌝ }
     ensures buffer { λ _. ⌜ now (out .exit) ≡ bufferIn (sumOutcome (now (first .entry)) (now (second .entry))) (now (out .entry)) ⌝ }

@@ -1,7 +1,6 @@
 -- `record_line`: the key's line or an answer's.
 use mathlib.Core.Path.{sym, ap, _∙_}
 use denote.Ref.{now}
-use lib.ListN.{take}
 use lib.Seq.{length-take-le}
 use Rattle.marking.specs.Marking.{answerLine}
 use Rattle.marking.proofs.Cases.{key-taken, record-key, record-answer}
