@@ -1,4 +1,4 @@
-// Runs the samples without a star, and the sample of each row of the refusal table, through the services: a line for each.
+// Runs the samples without a star, the sample of each row of the refusal table, and blanks through the services: a line for each.
 // What must come out is in the file `stdout`, as the scope has it.
 mod ask;
 mod make;
