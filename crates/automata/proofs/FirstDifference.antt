@@ -12,7 +12,8 @@ use Rattle.automata.specs.Automaton.{Automaton, accepts}
 use Rattle.automata.specs.Word.{Shortlex}
 use Rattle.automata.specs.Language.{Language, Same, symmetricDifference}
 use Rattle.automata.specs.Dimension.{Basis}
-use Rattle.automata.specs.WordList.{wordsBelow, firstOf, Member}
+use Rattle.automata.specs.Count.{Member}
+use Rattle.automata.specs.WordList.{wordsBelow, firstOf}
 use Rattle.automata.specs.MinimalOf.{minimalOf, dimensionOf}
 use Rattle.automata.specs.FirstDifference.{firstDifference, FirstDifference, IsDifference}
 use Rattle.automata.proofs.Xor.{bool-cases, xor-self, xor-zero}

@@ -14,7 +14,8 @@ use Rattle.automata.specs.Language.{Language, quotient, Same}
 use Rattle.automata.specs.Word.{Over, Shortlex}
 use Rattle.automata.specs.Dimension.{Basis, FromEarlier, quotients}
 use Rattle.automata.specs.Minimal.{AllBasis, Minimal}
-use Rattle.automata.specs.WordList.{wordsBelow, allOf, Member}
+use Rattle.automata.specs.Count.{Member}
+use Rattle.automata.specs.WordList.{wordsBelow, allOf}
 use Rattle.automata.specs.MinimalOf.{withBit, choose, fits, coefs, spans, greedy, basisWords, automatonOn, minimalOf}
 use Rattle.automata.proofs.Below.{up-to}
 use Rattle.automata.proofs.Xor.{bool-cases, xor-cong, xor-self, xor-false, xor-pick, eqb-same, eqb-differ}

@@ -7,8 +7,10 @@ use Prim.Native.Nat.{ℕ, zero, suc, _+_}
 use native.Mathlib.Omega.{arith}
 use lib.ListN.{length, length-append}
 use Rattle.automata.specs.Automaton.{Automaton, PathFrom, Path, sumBelow, pathsFrom, pathCount}
-use Rattle.automata.specs.WordList.{joinBelow, Member, Distinct, Count}
-use Rattle.automata.proofs.WordList.{mem-cases, mem-join, mem-join-cases, mem-cons, mem-cons-cases}
+use Rattle.automata.specs.Count.{Member, Distinct, Count}
+use Rattle.automata.specs.WordList.{joinBelow}
+use Rattle.automata.proofs.Count.{mem-map, mem-map-cases, length-map, distinct-append, distinct-map}
+use Rattle.automata.proofs.WordList.{mem-join, mem-join-cases}
 
 -- ---- lists that begin with one state
 
@@ -16,43 +18,27 @@ use Rattle.automata.proofs.WordList.{mem-cases, mem-join, mem-join-case
 abbrev behind : Bool → ℕ → List (List ℕ) → List (List ℕ)
 behind b i xs = cond b (map (λ p. i ∷ p) xs) []
 
-map-length : (i : ℕ) (xs : List (List ℕ)) → length (map (λ p. i ∷ p) xs) ≡ length xs
-map-length i [] = refl
-map-length i (x ∷ xs) = ap suc (map-length i xs)
-
 behind-length : (b : Bool) (i : ℕ) (xs : List (List ℕ)) → length (behind b i xs) ≡ cond b (length xs) 0
-behind-length true i xs = map-length i xs
+behind-length true i xs = length-map (λ p. i ∷ p) xs
 behind-length false i xs = refl
 
 tail-same : (i j : ℕ) (p q : List ℕ) → i ∷ p ≡ j ∷ q → p ≡ q
 tail-same i j p q e = cc
 
-distinct-map : (i : ℕ) (xs : List (List ℕ)) → Distinct xs → Distinct (map (λ p. i ∷ p) xs)
-distinct-map i [] d = tt
-distinct-map i (x ∷ xs) d = (λ m. let t = mem-cons-cases i (i ∷ x) xs m in d .0 (subst (λ y. Member y xs) (sym (tail-same i i x (t .0) (t .1))) (t .2)), distinct-map i xs (d .1))
-
 distinct-behind : (b : Bool) (i : ℕ) (xs : List (List ℕ)) → Distinct xs → Distinct (behind b i xs)
-distinct-behind true i xs d = distinct-map i xs d
+distinct-behind true i xs d = distinct-map (λ p. i ∷ p) (tail-same i i) xs d
 distinct-behind false i xs d = tt
 
 -- What stands in such a list: b holds, and the rest stands in xs.
 behind-cases : (b : Bool) (i : ℕ) (xs : List (List ℕ)) (p : List ℕ) → Member p (behind b i xs) → (b ≡ true) × ((q : List ℕ) × (p ≡ i ∷ q) × Member q xs)
-behind-cases true i xs p m = (refl, mem-cons-cases i p xs m)
+behind-cases true i xs p m = (refl, mem-map-cases (λ q. i ∷ q) p xs m)
 behind-cases false i xs p m = absurd m
 
 behind-member : (b : Bool) (i : ℕ) (xs : List (List ℕ)) (q : List ℕ) → b ≡ true → Member q xs → Member (i ∷ q) (behind b i xs)
-behind-member true i xs q e m = mem-cons i q xs m
+behind-member true i xs q e m = mem-map (λ p. i ∷ p) q xs m
 behind-member false i xs q e m = absurd (false≢true e)
 
 -- ---- lists end to end
-
-distinct-append : (xs ys : List (List ℕ)) → Distinct xs → Distinct ys → ((p : List ℕ) → Member p xs → Member p ys → ⊥) → Distinct (xs ++ ys)
-distinct-append [] ys d e apart = e
-distinct-append (x ∷ xs) ys d e apart = (λ m. go (mem-cases x xs ys m), distinct-append xs ys (d .1) e (λ p m n. apart p (inr m) n))
-  where
-    go : Member x xs ⊎ Member x ys → ⊥
-    go (inl m) = d .0 m
-    go (inr n) = apart x (inl refl) n
 
 -- Lists that begin with the states below k, each with its own.
 starts : (k : ℕ) (b : ℕ → Bool) (f : ℕ → List (List ℕ)) → List (List ℕ)

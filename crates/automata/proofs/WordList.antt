@@ -9,29 +9,13 @@ use native.Mathlib.Decide.{ℕ-discrete}
 use native.Mathlib.Omega.{arith}
 use lib.ListN.{length}
 use Rattle.automata.specs.Word.{Over, Shortlex}
-use Rattle.automata.specs.WordList.{joinBelow, wordsOfLength, wordsBelow, allOf, Member}
+use Rattle.automata.specs.Count.{Member}
+use Rattle.automata.specs.WordList.{joinBelow, wordsOfLength, wordsBelow, allOf}
+use Rattle.automata.proofs.Count.{mem-left, mem-right, mem-cases, mem-map, mem-map-cases}
 
 abbrev pub Sorted : List (List ℕ) → Type 0
 Sorted [] = Unit {0}
 Sorted (w ∷ ws) = ((u : List ℕ) → Member u ws → Shortlex w u) × Sorted ws
-
-pub mem-left : (u : List ℕ) (xs ys : List (List ℕ)) → Member u xs → Member u (xs ++ ys)
-mem-left u [] ys h = absurd h
-mem-left u (x ∷ xs) ys (inl e) = inl e
-mem-left u (x ∷ xs) ys (inr h) = inr (mem-left u xs ys h)
-
-pub mem-right : (u : List ℕ) (xs ys : List (List ℕ)) → Member u ys → Member u (xs ++ ys)
-mem-right u [] ys h = h
-mem-right u (x ∷ xs) ys h = inr (mem-right u xs ys h)
-
-pub mem-cases : (u : List ℕ) (xs ys : List (List ℕ)) → Member u (xs ++ ys) → Member u xs ⊎ Member u ys
-mem-cases u [] ys h = inr h
-mem-cases u (x ∷ xs) ys (inl e) = inl (inl e)
-mem-cases u (x ∷ xs) ys (inr h) = go (mem-cases u xs ys h)
-  where
-    go : Member u xs ⊎ Member u ys → Member u (x ∷ xs) ⊎ Member u ys
-    go (inl m) = inl (inr m)
-    go (inr m) = inr m
 
 pub sorted-append : (xs ys : List (List ℕ)) → Sorted xs → Sorted ys → ((u v : List ℕ) → Member u xs → Member v ys → Shortlex u v) → Sorted (xs ++ ys)
 sorted-append [] ys p q h = q
@@ -65,23 +49,13 @@ sorted-join (suc k) f s h =
 
 -- ---- words that begin with one letter
 
-pub mem-cons : (l : ℕ) (w : List ℕ) (ws : List (List ℕ)) → Member w ws → Member (l ∷ w) (map (λ u. l ∷ u) ws)
-mem-cons l w [] m = absurd m
-mem-cons l w (x ∷ xs) (inl e) = inl (ap (λ u. l ∷ u) e)
-mem-cons l w (x ∷ xs) (inr m) = inr (mem-cons l w xs m)
-
-pub mem-cons-cases : (l : ℕ) (u : List ℕ) (ws : List (List ℕ)) → Member u (map (λ w. l ∷ w) ws) → (w : List ℕ) × (u ≡ l ∷ w) × Member w ws
-mem-cons-cases l u [] m = absurd m
-mem-cons-cases l u (x ∷ xs) (inl e) = (x, e, inl refl)
-mem-cons-cases l u (x ∷ xs) (inr m) = let t = mem-cons-cases l u xs m in (t .0, t .1, inr (t .2))
-
 shortlex-cons : (l : ℕ) (u v : List ℕ) → Shortlex u v → Shortlex (l ∷ u) (l ∷ v)
 shortlex-cons l u v (inl h) = inl (omega arith)
 shortlex-cons l u v (inr h) = inr (ap suc (h .0), inr (refl, h .1))
 
 sorted-cons : (l : ℕ) (ws : List (List ℕ)) → Sorted ws → Sorted (map (λ w. l ∷ w) ws)
 sorted-cons l [] s = tt
-sorted-cons l (x ∷ xs) s = (λ u m. let t = mem-cons-cases l u xs m in rw (t .1) (shortlex-cons l x (t .0) (s .0 (t .0) (t .2))), sorted-cons l xs (s .1))
+sorted-cons l (x ∷ xs) s = (λ u m. let t = mem-map-cases (λ u. l ∷ u) u xs m in rw (t .1) (shortlex-cons l x (t .0) (s .0 (t .0) (t .2))), sorted-cons l xs (s .1))
 
 -- ---- the words of one length, and those below a length
 
@@ -92,13 +66,13 @@ words-sound a (suc n) w m = go (mem-join-cases w a (λ l. map (λ u. l ∷ u) (w
   where
     go : (l : ℕ) × (l < a) × Member w (map (λ u. l ∷ u) (wordsOfLength a n)) → ((u : List ℕ) → Member u (wordsOfLength a n) → (length u ≡ n) × Over a u) → (length w ≡ suc n) × Over a w
     go t ih =
-        let s = mem-cons-cases (t .0) w (wordsOfLength a n) (t .2) in
+        let s = mem-map-cases (λ u. t .0 ∷ u) w (wordsOfLength a n) (t .2) in
         let r = ih (s .0) (s .2) in
         (ap length (s .1) ∙ ap suc (r .0), subst (Over a) (sym (s .1)) (t .1, r .1))
 
 pub words-complete : (a : ℕ) (w : List ℕ) → Over a w → Member w (wordsOfLength a (length w))
 words-complete a [] ow = inl refl
-words-complete a (l ∷ w) ow = mem-join (l ∷ w) a (λ k. map (λ u. k ∷ u) (wordsOfLength a (length w))) l (ow .0) (mem-cons l w (wordsOfLength a (length w)) (words-complete a w (ow .1)))
+words-complete a (l ∷ w) ow = mem-join (l ∷ w) a (λ k. map (λ u. k ∷ u) (wordsOfLength a (length w))) l (ow .0) (mem-map (λ u. l ∷ u) w (wordsOfLength a (length w)) (words-complete a w (ow .1)))
 
 pub words-sorted : (a n : ℕ) → Sorted (wordsOfLength a n)
 words-sorted a zero = (λ u m. absurd m, tt)
@@ -106,8 +80,8 @@ words-sorted a (suc n) = sorted-join a (λ l. map (λ w. l ∷ w) (wordsOfLength
   where
     across : (i j : ℕ) → i < j → (u v : List ℕ) → Member u (map (λ w. i ∷ w) (wordsOfLength a n)) → Member v (map (λ w. j ∷ w) (wordsOfLength a n)) → Shortlex u v
     across i j h u v m k =
-        let s = mem-cons-cases i u (wordsOfLength a n) m in
-        let t = mem-cons-cases j v (wordsOfLength a n) k in
+        let s = mem-map-cases (λ u. i ∷ u) u (wordsOfLength a n) m in
+        let t = mem-map-cases (λ u. j ∷ u) v (wordsOfLength a n) k in
         rw (s .1, t .1) (inr (ap suc (words-sound a n (s .0) (s .2) .0 ∙ sym (words-sound a n (t .0) (t .2) .0)), inl h))
 
 pub below-sound : (a n : ℕ) (w : List ℕ) → Member w (wordsBelow a n) → (length w < n) × Over a w

@@ -3,6 +3,8 @@ pub mod Xor
 pub mod Automaton
 pub mod Word
 pub mod Language
+pub mod Count
+pub mod Cuts
 pub mod Dimension
 pub mod Minimal
 pub mod Operations

@@ -1,11 +1,8 @@
 -- Lists of words: all words of a length, and below a length, in shortlex order; the first word at which a test holds.
-use mathlib.Core.Path.{_≡_}
 use mathlib.Core.Bool.{Bool, true, _&&_, cond}
-use mathlib.Core.Logic.{_⊎_}
 use mathlib.Core.List.{List, [], _∷_, _++_, map}
 use mathlib.Core.Option.{Option, none, some}
 use Prim.Native.Nat.{ℕ, zero, suc}
-use lib.ListN.{length}
 
 -- The lists f 0, f 1, … below k, end to end.
 abbrev pub joinBelow : {X : Type 0} → ℕ → (ℕ → List X) → List X
@@ -30,21 +27,3 @@ allOf f (w ∷ ws) = f w && allOf f ws
 abbrev pub firstOf : (List ℕ → Bool) → List (List ℕ) → Option (List ℕ)
 firstOf f [] = none
 firstOf f (w ∷ ws) = cond (f w) (some w) (firstOf f ws)
-
--- w stands in the list.
-abbrev pub Member : List ℕ → List (List ℕ) → Type 0
-Member w [] = ⊥
-Member w (x ∷ xs) = (w ≡ x) ⊎ Member w xs
-
--- No list stands twice in it.
-abbrev pub Distinct : List (List ℕ) → Type 0
-Distinct [] = Unit {0}
-Distinct (x ∷ xs) = (Member x xs → ⊥) × Distinct xs
-
--- There are n lists at which P holds: some list of n has each of them once, and no other.
-pub record Count (P : List ℕ → Type 0) (n : ℕ) : Type 0 where
-  pub each : List (List ℕ)
-  pub size : length each ≡ n
-  pub distinct : Distinct each
-  pub sound : (p : List ℕ) → Member p each → P p
-  pub complete : (p : List ℕ) → P p → Member p each
