@@ -11,12 +11,16 @@ use Rattle.automata.specs.Automaton.{Automaton, accepts}
 use Rattle.automata.specs.Language.{Language, Same}
 use Rattle.automata.specs.Dimension.{IsDimension}
 use Rattle.automata.specs.Minimal.{AllBasis, Minimal, SameBits}
-use Rattle.automata.specs.Operations.{sumOf, meetOf, mirrorOf, complementOf}
+use Rattle.automata.specs.Operations.{sumOf, meetOf, mirrorOf, complementOf, concatenationOf, starOf}
 use Rattle.automata.specs.MinimalOf.{basisWords, minimalOf, dimensionOf}
 use Rattle.automata.proofs.Shortlex.{over-reverse}
 use Rattle.automata.proofs.Acceptance.{states-bound}
-use Rattle.automata.proofs.Minimal.{minimal-accepts, minimal-dimension, same-basis, minimal-unique, bits-language}
+use Rattle.automata.proofs.Minimal.{minimal-accepts, minimal-dimension, minimal-same, same-basis, same-sym, minimal-unique, bits-language}
 use Rattle.automata.proofs.Operations.{accepts-sum, accepts-meet, accepts-complement, accepts-mirror}
+use Rattle.automata.proofs.Concatenation.{concatenation-same}
+use Rattle.automata.proofs.Star.{star-same}
+use Rattle.automata.proofs.ConcatenationOf.{accepts-concatenation}
+use Rattle.automata.proofs.StarOf.{accepts-star}
 use Rattle.automata.proofs.MinimalOf.{minimal-of}
 
 -- ---- the dimension
@@ -24,9 +28,15 @@ use Rattle.automata.proofs.MinimalOf.{minimal-of}
 pub dimension-unique : (a : ℕ) (L : Language) (d e : ℕ) → IsDimension a L d → IsDimension a L e → d ≡ e
 dimension-unique a L d e p q = le-antisymm (q .largest d (p .reached)) (p .largest e (q .reached))
 
-pub dimension-of : (a : ℕ) (A : Automaton) → IsDimension a (accepts A) (dimensionOf a A)
+-- The dimension of the words that A accepts.
+pub dimension-accepted : (a : ℕ) (L : Language) (A : Automaton) → Same a L (accepts A) → IsDimension a L (dimensionOf a A)
 unfolding dimensionOf
-dimension-of a A = minimal-dimension a (accepts A) (minimalOf a A) (basisWords a (A .states) (accepts A)) (minimal-of a A)
+dimension-accepted a L A same =
+    minimal-dimension a L (minimalOf a A) (basisWords a (A .states) (accepts A))
+    (minimal-same a (accepts A) L (minimalOf a A) (basisWords a (A .states) (accepts A)) (same-sym a L (accepts A) same) (minimal-of a A))
+
+pub dimension-of : (a : ℕ) (A : Automaton) → IsDimension a (accepts A) (dimensionOf a A)
+dimension-of a A = dimension-accepted a (accepts A) A (λ w ow. refl)
 
 -- The number of basis words is the dimension.
 pub basis-dimension : (a : ℕ) (A : Automaton) (bs : List (List ℕ)) → AllBasis a (accepts A) bs → IsDimension a (accepts A) (length bs)
@@ -100,3 +110,22 @@ mirror-least a A = omega (
 -- The mirror has the same dimension.
 pub mirror-dimension : (a : ℕ) (A : Automaton) → dimensionOf a (mirrorOf A) ≡ dimensionOf a A
 mirror-dimension a A = le-antisymm (mirror-least a A) (mirror-least a (mirrorOf A))
+
+pub concatenation-dimension : (a : ℕ) (A B : Automaton) → dimensionOf a (concatenationOf A B) ≤ dimensionOf a A + dimensionOf a B
+concatenation-dimension a A B = omega (
+  arith,
+  minimal-states a A,
+  minimal-states a B,
+  dimension-least a (concatenationOf A B) (concatenationOf (minimalOf a A) (minimalOf a B))
+      (λ w ow. accepts-concatenation A B w
+      ∙ concatenation-same a (accepts A) (accepts (minimalOf a A)) (accepts B) (accepts (minimalOf a B)) (minimal-language a A) (minimal-language a B) w ow
+      ∙ sym (accepts-concatenation (minimalOf a A) (minimalOf a B) w)),
+)
+
+pub star-dimension : (a : ℕ) (A : Automaton) → dimensionOf a (starOf A) ≤ dimensionOf a A + 1
+star-dimension a A = omega (
+  arith,
+  minimal-states a A,
+  dimension-least a (starOf A) (starOf (minimalOf a A))
+      (λ w ow. accepts-star A w ∙ star-same a (accepts A) (accepts (minimalOf a A)) (minimal-language a A) w ow ∙ sym (accepts-star (minimalOf a A) w)),
+)

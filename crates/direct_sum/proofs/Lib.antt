@@ -1,2 +1,3 @@
 pub mod Filling
+pub mod Changing
 pub mod SumLaws

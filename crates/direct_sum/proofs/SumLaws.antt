@@ -19,7 +19,8 @@ use Rattle.rows.specs.Machine.{autoBy, auto, Bounded}
 use Rattle.rows.proofs.TableLaws.{length-stored, stored-same, stored-block, stored-row}
 use Rattle.rows.proofs.BesideLaws.{if-low, if-high}
 use Rattle.rows.proofs.DirectSum.{pair-lt, beside-lt, beside-bits}
-use Rattle.direct_sum.specs.Filled.{Joined, Filled}
+use Rattle.direct_sum.specs.Filled.{Joined, Filled, ChangedUpTo}
+use Rattle.direct_sum.proofs.Changing.{up-to-step}
 
 -- ---- one block
 
@@ -39,23 +40,8 @@ module _ (l n : ℕ) (u t : List ℕ) where
 
 -- ---- block after block
 
--- The first l blocks have the rows of both, the others are as they were.
-pub record Besides (l n k : ℕ) (t u s : List ℕ) : Type 0 where
-  pub rows : (x i : ℕ) → x < l → i < n + k → at s x i ≡ beside (at t) (at u) n x i
-  pub rest : (x i : ℕ) → l ≤ x → i < width → at s x i ≡ at t x i
-  pub size : length s ≡ size
-
-pub besides-start : (n k : ℕ) (t u : List ℕ) → length t ≡ size → Besides 0 n k t u t
-besides-start n k t u h = record { rows = λ x i p. absurd (not-suc-le-zero p); rest = λ x i p q. refl; size = h }
-
-pub besides-step : (l n k : ℕ) (t u s s′ : List ℕ) → n + k ≤ width → Joined l n k u s s′ → Besides l n k t u s → Besides (l + 1) n k t u s′
-besides-step l n k t u s s′ w J B = rw add-one (record {
-  rows = λ x i p q. up-to {Q = λ x. at s′ x i ≡ beside (at t) (at u) n x i} l
-      (λ x p. J .others x i (omega arith) (omega arith) ∙ B .rows x i p q)
-      (here i q (decLt i n)) x p;
-  rest = λ x i p q. J .others x i q (omega arith) ∙ B .rest x i (omega arith) q;
-  size = J .size;
-})
+pub besides-step : (l n k : ℕ) (t u s s′ : List ℕ) → n + k ≤ width → Joined l n k u s s′ → ChangedUpTo l (n + k) (beside (at t) (at u) n) t s → ChangedUpTo (l + 1) (n + k) (beside (at t) (at u) n) t s′
+besides-step l n k t u s s′ w J B = up-to-step (n + k) (beside (at t) (at u) n) t l s s′ w (J .others) (λ i q. here i q (decLt i n)) (J .size) B
   where
     here : (i : ℕ) → i < n + k → Dec (i < n) → at s′ l i ≡ beside (at t) (at u) n l i
     here i q (yes z) = J .low i z ∙ B .rest l i (omega arith) (omega arith) ∙ sym (if-low i n (at t l i) (at u l (i - n) * 2 ^ n) z)
@@ -63,9 +49,6 @@ besides-step l n k t u s s′ w J B = rw add-one (record {
       where
         back : i ≡ n + (i - n)
         back = omega arith
-
-pub besides-end : (a n k : ℕ) (t u s : List ℕ) → Besides a n k t u s → Filled a (n + k) (beside (at t) (at u) n) s
-besides-end a n k t u s B = record { rows = B .rows; size = B .size }
 
 -- ---- the sum
 

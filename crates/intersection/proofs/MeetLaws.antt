@@ -114,7 +114,7 @@ module _ (bs cs : List ℕ) where
 
   meet-products : (room : ℕ) (r : Written) → r ≡ answerOf (meetOutcome bs cs room) → Limits 10 maxProduct (Operands bs cs) (DimensionProduct bs cs) r
   meet-products room = limits-of 10 maxProduct product (result room) (meetOutcome bs cs room) (Operands bs cs) (DimensionProduct bs cs)
-      (passed room) (meet-passed room 10) (λ k e. let z = result-number (lettersOf bs) (meetOf (automatonOf bs) (automatonOf cs)) room 10 0 k e in omega arith)
+      (passed room) (meet-passed room 10) (λ k e. let z = result-number (lettersOf bs) (meetOf (automatonOf bs) (automatonOf cs)) room 10 0 k e .0 in omega arith)
       dimensions unique
 
   meet-service : (buf : List ℕ) → Service (lettersOf bs) (intersection (languageOf bs) (languageOf cs)) (Operands bs cs × Small bs cs) buf (meetOutcome bs cs (length buf))

@@ -54,9 +54,9 @@ fit-reasoned room out = go (ltb room (length out))
     go true = omega arith
     go false = tt
 
-pub limit-reasoned : (b : Bool) (number d : ℕ) (rest : Outcome) → 1 ≤ number → Reasoned rest → Reasoned (cond b (refused number 0 d) rest)
-limit-reasoned true number d rest h r = h
-limit-reasoned false number d rest h r = r
+pub row-reasoned : (b : Bool) (number which place : ℕ) (rest : Outcome) → 1 ≤ number → Reasoned rest → Reasoned (cond b (refused number which place) rest)
+row-reasoned true number which place rest h r = h
+row-reasoned false number which place rest h r = r
 
 -- The checks of two records.
 abbrev Paired : Pair → Type 0
@@ -94,7 +94,7 @@ mark-reasoned s index room = fit-reasoned room (markLine s index)
 
 pub catalogue-reasoned : (number room : ℕ) → Reasoned (catalogueOf number room)
 unfolding catalogueOf
-catalogue-reasoned j room = limit-reasoned (ltb last j) 13 j (fit room (recordOf j)) (omega arith) (fit-reasoned room (recordOf j))
+catalogue-reasoned j room = row-reasoned (ltb last j) 13 0 j (fit room (recordOf j)) (omega arith) (fit-reasoned room (recordOf j))
 
 -- ---- the answer that a host reads off a reply
 

@@ -10,6 +10,8 @@ ghost use Rattle.minimal.specs.Minimal.{minimalOutcome, minimalAnswer, GivesMin
 ghost use Rattle.compare.specs.Compare.{compareOutcome, compareAnswer, Compares};
 ghost use Rattle.operations.specs.Operations.{sumOutcome, complementOutcome, mirrorOutcome, Sums, Complements, Mirrors};
 ghost use Rattle.intersection.specs.Meet.{meetOutcome, Meets};
+ghost use Rattle.concatenation.specs.Product.{productOutcome, GivesProduct};
+ghost use Rattle.star.specs.Star.{starOutcome, GivesStar};
 ghost use Rattle.lines.specs.Lines.{longest};
 ghost use Rattle.marking.specs.Marking.{markLine, markOutcome};
 ghost use Rattle.marking.specs.Told.{Marks};
@@ -92,6 +94,17 @@ pub extern "C" fn nxa_meet(first: &[u8], second: &[u8], out: &mut [u8]) -> Reply
     replies::of_written(intersection::meet(first, second, out))
 }
 
+// Writes the minimal record of the words that have an odd number of cuts into a word of the first record and then a word of the second.
+// `claims`: as for the sum.
+#[no_mangle]
+pub extern "C" fn nxa_product(first: &[u8], second: &[u8], out: &mut [u8]) -> Reply
+    ensures reply { λ r. ⌜ r ≡ ofWritten (answerIn (asMeant productOutcome (now (first .entry)) (now (second .entry))) (now (out .entry))) ⌝ }
+    ensures buffer { λ _. ⌜ now (out .exit) ≡ bufferIn (asMeant productOutcome (now (first .entry)) (now (second .entry))) (now (out .entry)) ⌝ }
+    ensures claims { λ r. ⌜ asMeant GivesProduct (now (first .entry)) (now (second .entry)) (now (out .exit)) (writtenIn r) ⌝ }
+{
+    replies::of_written(concatenation::product(first, second, out))
+}
+
 // Writes the minimal record of the words over the record's letters that it does not accept.
 #[no_mangle]
 pub extern "C" fn nxa_complement(record: &[u8], out: &mut [u8]) -> Reply
@@ -110,6 +123,17 @@ pub extern "C" fn nxa_mirror(record: &[u8], out: &mut [u8]) -> Reply
     ensures claims { λ r. ⌜ Mirrors (now («record» .entry)) (now (out .exit)) (writtenIn r) ⌝ }
 {
     replies::of_written(operations::mirror(record, out))
+}
+
+// Writes the minimal record of the words that have an odd number of cuts into words of the record; the empty word has one, into none.
+// `claims`: refusal 14 comes exactly where a well-formed record accepts the empty word; where it does not, as for the sum.
+#[no_mangle]
+pub extern "C" fn nxa_star(record: &[u8], out: &mut [u8]) -> Reply
+    ensures reply { λ r. ⌜ r ≡ ofWritten (answerIn (starOutcome (now («record» .entry))) (now (out .entry))) ⌝ }
+    ensures buffer { λ _. ⌜ now (out .exit) ≡ bufferIn (starOutcome (now («record» .entry))) (now (out .entry)) ⌝ }
+    ensures claims { λ r. ⌜ GivesStar (now («record» .entry)) (now (out .exit)) (writtenIn r) ⌝ }
+{
+    replies::of_written(star::star(record, out))
 }
 
 // Gives out a record of the catalogue by its number. `claims`: where the reply's number is 0, the first `length` bytes of the buffer are the

@@ -1,8 +1,7 @@
 -- The automata that the operations build in tables accept the words of the result.
 use mathlib.Core.Path.{_≡_, refl, sym, ap, ap₂, subst, _∙_}
-use mathlib.Core.Bool.{true}
 use mathlib.Core.List.{List, reverse}
-use Prim.Native.Nat.{ℕ, zero, suc, _+_, _*_, _^_, _<_, _≤_}
+use Prim.Native.Nat.{ℕ, _+_, _*_, _^_, _<_, _≤_}
 use native.Mathlib.Omega.{arith}
 use lib.Bits.{bitXor}
 use Rattle.automata.specs.Xor.{_⊕_}
@@ -19,6 +18,7 @@ use Rattle.rows.specs.Row.{width, mask}
 use Rattle.rows.specs.Table.{blocks, at, stored}
 use Rattle.rows.specs.Beside.{beside}
 use Rattle.rows.specs.Machine.{auto, automatonIn, Bounded, Valid}
+use Rattle.rows.proofs.BitLaws.{bit-one}
 use Rattle.transpose.specs.Transposed.{Transposed}
 use Rattle.minimisation.proofs.MinimiseLaws.{transposed-bounded, transposed-bits}
 use Rattle.direct_sum.specs.Filled.{Filled}
@@ -26,13 +26,8 @@ use Rattle.direct_sum.proofs.Filling.{filling-start, filling-step, filling-end}
 use Rattle.direct_sum.proofs.SumLaws.{sum-bounded, sum-bits}
 use Rattle.record.specs.Record.{lettersOf, automatonOf}
 use Rattle.record.specs.Held.{Holds}
-use Rattle.record.proofs.Held.{bits-held}
 use Rattle.results.specs.Built.{Built}
-use Rattle.results.proofs.BuiltLaws.{built, built-same}
-
--- What a record's table accepts.
-held-words : (bs t : List ℕ) (m : Machine) → Holds bs t m → Same (lettersOf bs) (accepts (automatonOf bs)) (accepts (automatonIn t m))
-held-words bs t m H w ow = sym (bits-language (lettersOf bs) (automatonIn t m) (automatonOf bs) (bits-held bs t m H) w ow)
+use Rattle.results.proofs.BuiltLaws.{built, built-same, held-words}
 
 -- ---- sum
 
@@ -59,10 +54,6 @@ sum-held bs cs t u s g h r e G H B =
     (λ w ow. ap₂ _⊕_ (held-words bs t g G w ow) (subst (λ a. Same a (accepts (automatonOf cs)) (accepts (automatonIn u h))) (sym e) (held-words cs u h H) w ow)) B
 
 -- ---- complement
-
-bit-one : (k : ℕ) → k < 1 → bitOf 1 k ≡ true
-bit-one zero h = refl
-bit-one (suc k) h = absurd (omega arith)
 
 -- One more block of the table that holds the automaton of every word.
 pub all-step : (l x : ℕ) (s s′ : List ℕ) → l < blocks → x ≡ 1 → s′ ≡ stored s l 0 x → Filled l 1 (λ l i. 1) s → Filled (l + 1) 1 (λ l i. 1) s′

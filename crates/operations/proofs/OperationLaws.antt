@@ -10,8 +10,7 @@ use Rattle.automata.specs.Operations.{sumOf}
 use Rattle.automata.proofs.Operations.{accepts-sum, accepts-complement, accepts-mirror}
 use Rattle.record.specs.Record.{lettersOf, checkOf, WellFormed, automatonOf}
 use Rattle.record.specs.Outcome.{Outcome, refused, checked}
-use Rattle.record.specs.declared.Checked.{Checked}
-use Rattle.record.specs.declared.Checked.the-variants.{Good, Refused as Wrong}
+use Rattle.record.specs.declared.Checked.the-variants.{Refused as Wrong}
 use Rattle.record.proofs.Outcome.{checked-wrote}
 use Rattle.record.specs.Claims.{Operands}
 use Rattle.operands.specs.Meant.{blankOf}
@@ -20,15 +19,10 @@ use Rattle.operands.specs.declared.Pair.the-variants.{Refused as Bad}
 use Rattle.operands.proofs.MeantLaws.{SameFor, writes-blank}
 use Rattle.results.specs.Results.{resultOf}
 use Rattle.results.proofs.ResultLaws.{Service, service-of}
-use Rattle.results.proofs.Passed.{sizes, pair-wrote, pair-refused, pair-passed}
+use Rattle.results.proofs.Passed.{sizes, checked-refused, pair-wrote, pair-refused, pair-passed}
 use Rattle.operations.specs.Operations.{sumOutcome, unaryLanguage, unaryOf, unaryOutcome}
 use Rattle.operations.specs.declared.Unary.{Unary}
 use Rattle.operations.specs.declared.Unary.the-variants.{Complement, Mirror}
-
--- A refusal that names no record comes after the check.
-checked-refused : (c : Checked) (rest : Outcome) (number k : ℕ) → checked c 1 rest ≡ refused number 0 k → c ≡ Good
-checked-refused Good rest number k e = refl
-checked-refused (Wrong n p) rest number k e = let z : _≡_ {A = ℕ} 1 0 = cc in absurd (omega arith)
 
 -- ---- sum
 

@@ -1,10 +1,12 @@
--- When the checks of two records have passed: where a service writes, or refuses and names neither of them.
+-- When the checks of one or two records have passed: where a service writes, or refuses and names none of them.
 use mathlib.Core.Path.{_≡_, refl, ap, _∙_}
 use mathlib.Core.List.{List}
 use Prim.Native.Nat.{ℕ, _≤_}
 use native.Mathlib.Omega.{arith}
 use Rattle.record.specs.Record.{maxLetters, lettersOf, WellFormed}
-use Rattle.record.specs.Outcome.{Outcome, refused, wrote}
+use Rattle.record.specs.Outcome.{Outcome, refused, wrote, checked}
+use Rattle.record.specs.declared.Checked.{Checked}
+use Rattle.record.specs.declared.Checked.the-variants.{Good, Refused as Wrong}
 use Rattle.record.proofs.Refusals.{good-check}
 use Rattle.record.specs.Claims.{Operands}
 use Rattle.operands.specs.Operands.{pairOf, afterPair}
@@ -15,6 +17,11 @@ use Rattle.operands.proofs.PairLaws.{both-pass, both-passed, pair-named}
 -- The letters of a well-formed record.
 pub sizes : (bs : List ℕ) → WellFormed bs → (1 ≤ lettersOf bs) × (lettersOf bs ≤ maxLetters)
 sizes bs good = let f = good-check bs good .front in (f .some, f .letters)
+
+-- A refusal that names no record comes after the check.
+pub checked-refused : (c : Checked) (rest : Outcome) (number k : ℕ) → checked c 1 rest ≡ refused number 0 k → c ≡ Good
+checked-refused Good rest number k e = refl
+checked-refused (Wrong n p) rest number k e = let z : _≡_ {A = ℕ} 1 0 = cc in absurd (omega arith)
 
 module _ (bs cs : List ℕ) (rest : Outcome) where
   pub pair-wrote : (out : List ℕ) → afterPair (pairOf bs cs) rest ≡ wrote out → Operands bs cs

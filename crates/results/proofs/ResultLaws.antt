@@ -10,10 +10,8 @@ use lib.ListN.{length, take}
 use Rattle.automata.specs.Automaton.{Automaton, accepts}
 use Rattle.automata.specs.Language.{Language, Same}
 use Rattle.automata.specs.Dimension.{IsDimension}
-use Rattle.automata.specs.MinimalOf.{basisWords, minimalOf, dimensionOf}
-use Rattle.automata.proofs.Minimal.{minimal-same, minimal-dimension, same-sym}
-use Rattle.automata.proofs.MinimalOf.{minimal-of}
-use Rattle.automata.proofs.Dimension.{dimension-unique, dimension-same}
+use Rattle.automata.specs.MinimalOf.{minimalOf, dimensionOf}
+use Rattle.automata.proofs.Dimension.{dimension-accepted, dimension-unique, dimension-same}
 use Rattle.automata.proofs.Fields.{same-fields}
 use Rattle.rows.specs.declared.Machine.{Machine}
 use Rattle.rows.specs.Row.{mask}
@@ -30,15 +28,6 @@ use Rattle.record.proofs.Claims.{minimal-encode}
 use Rattle.record.proofs.Outcome.{fit-wrote, outcome-take}
 use Rattle.results.specs.Results.{limited, resultOf, Limits, Gives}
 use Rattle.results.specs.Built.{Built}
-
--- ---- the dimension of a language
-
--- The dimension of the words that A accepts.
-dimension-language : (a : ℕ) (L : Language) (A : Automaton) → Same a L (accepts A) → IsDimension a L (dimensionOf a A)
-unfolding dimensionOf
-dimension-language a L A same =
-    minimal-dimension a L (minimalOf a A) (basisWords a (A .states) (accepts A))
-    (minimal-same a (accepts A) L (minimalOf a A) (basisWords a (A .states) (accepts A)) (same-sym a L (accepts A) same) (minimal-of a A))
 
 -- ---- rows 11 and 12
 
@@ -87,11 +76,11 @@ fit-twelve room bytes number which k e = go (ltb room (length bytes)) e
     go false q = absurd (not-wrote (sym q))
 
 -- The refusals of a result are rows 11 and 12.
-pub result-number : (a : ℕ) (A : Automaton) (room number which k : ℕ) → resultOf a A room ≡ refused number which k → 11 ≤ number
+pub result-number : (a : ℕ) (A : Automaton) (room number which k : ℕ) → resultOf a A room ≡ refused number which k → (11 ≤ number) × (number ≤ 12)
 unfolding resultOf
 result-number a A room number which k e = go (ltb maxStates (dimensionOf a A)) e
   where
-    go : (b : Bool) → cond b (refused 11 0 (dimensionOf a A)) (fit room (encode a (minimalOf a A))) ≡ refused number which k → 11 ≤ number
+    go : (b : Bool) → cond b (refused 11 0 (dimensionOf a A)) (fit room (encode a (minimalOf a A))) ≡ refused number which k → (11 ≤ number) × (number ≤ 12)
     go true q =
         let z : number ≡ 11 = cc in
         omega arith
@@ -99,7 +88,7 @@ result-number a A room number which k e = go (ltb maxStates (dimensionOf a A)) e
 
 -- ---- from the answer to what was done
 
-answer-refused : (o : Outcome) (number which place : ℕ) → answerOf o ≡ Refused number which place → o ≡ refused number which place
+pub answer-refused : (o : Outcome) (number which place : ℕ) → answerOf o ≡ Refused number which place → o ≡ refused number which place
 answer-refused (refused n w p) number which place e = cc
 answer-refused (wrote out) number which place e = let z : _≡_ {A = ℕ} 0 1 = cc in absurd (omega arith)
 
@@ -154,8 +143,8 @@ module _ (a : ℕ) (L : Language) (A : Automaton) (same : Same a L (accepts A)) 
   unfolding resultOf
   limits = limits-of 11 maxStates (dimensionOf a A) (fit (length buf) (encode a (minimalOf a A))) o Passed (IsDimension a L) passed refuses
       (λ k e. let z = fit-twelve (length buf) (encode a (minimalOf a A)) 11 0 k e in omega arith)
-      (λ p. dimension-language a L A same)
-      (λ p k m. dimension-unique a L k (dimensionOf a A) m (dimension-language a L A same))
+      (λ p. dimension-accepted a L A same)
+      (λ p k m. dimension-unique a L k (dimensionOf a A) m (dimension-accepted a L A same))
 
   -- What is claimed follows from the answer and the buffer.
   promises : (exit : List ℕ) (r : Written) → r ≡ answerOf o → exit ≡ bufferOf o buf → Promises a L Passed o buf exit r

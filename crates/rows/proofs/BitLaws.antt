@@ -147,6 +147,14 @@ pub bit-when : (b : Bool) (x j : ℕ) → bitOf (cond b x 0) j ≡ b && bitOf x 
 bit-when true x j = refl
 bit-when false x j = bit-none j
 
+pub when-lt : (b : Bool) (x n : ℕ) → x < 2 ^ n → cond b x 0 < 2 ^ n
+when-lt true x n h = h
+when-lt false x n h = omega arith
+
+pub bit-one : (k : ℕ) → k < 1 → bitOf 1 k ≡ true
+bit-one zero h = refl
+bit-one (suc k) h = absurd (omega arith)
+
 -- ---- a number is its bits
 
 -- A number has at most as many bits as it is large.

@@ -30,7 +30,25 @@ pair-bits n x y h j = bit-xor j x (y * 2 ^ n) ∙ go (decLt j n)
         back : j ≡ n + (j - n)
         back = omega arith
 
-wider : (n m x : ℕ) → x < 2 ^ n → x < 2 ^ (n + m)
+-- A row of the first with nothing beside it, and a row of the second likewise.
+pub alone-bits : (n x : ℕ) → x < 2 ^ n → (j : ℕ) → bitOf x j ≡ joined n (bitOf x) (λ i. false) j
+alone-bits n x h j = go (decLt j n)
+  where
+    go : Dec (j < n) → bitOf x j ≡ joined n (bitOf x) (λ i. false) j
+    go (yes z) = sym (if-low j n (bitOf x j) false z)
+    go (no z) = bit-high n h j (omega arith) ∙ sym (if-high j n (bitOf x j) false (omega arith))
+
+pub moved-bits : (n y j : ℕ) → bitOf (y * 2 ^ n) j ≡ joined n (λ i. false) (bitOf y) j
+moved-bits n y j = go (decLt j n)
+  where
+    go : Dec (j < n) → bitOf (y * 2 ^ n) j ≡ joined n (λ i. false) (bitOf y) j
+    go (yes z) = bit-shl-low y n j z ∙ sym (if-low j n false (bitOf y (j - n)) z)
+    go (no z) = ap (bitOf (y * 2 ^ n)) back ∙ bit-shl y n (j - n) ∙ sym (if-high j n false (bitOf y (j - n)) (omega arith))
+      where
+        back : j ≡ n + (j - n)
+        back = omega arith
+
+pub wider : (n m x : ℕ) → x < 2 ^ n → x < 2 ^ (n + m)
 wider n m x h = lt-of-lt-of-le h (pow-mono (omega arith))
 
 pub pair-lt : (n m x y : ℕ) → x < 2 ^ n → y < 2 ^ m → bitXor x (y * 2 ^ n) < 2 ^ (n + m)
@@ -55,22 +73,15 @@ module _ (a : ℕ) (F : ℕ → ℕ → ℕ) (n : ℕ) (G : ℕ → ℕ → ℕ)
   }
     where
       first : ℕ → ℕ → ℕ → Bool
-      first l k j = joined n (bitOf (F l k)) (λ j. false) j
+      first l k = joined n (bitOf (F l k)) (λ j. false)
 
       second : ℕ → ℕ → ℕ → Bool
-      second l k j = joined n (λ j. false) (bitOf (G l (k - n))) j
+      second l k = joined n (λ j. false) (bitOf (G l (k - n)))
 
       go : (l k j : ℕ) → l < a → Dec (k < n) → bitOf (beside F G n l k) j ≡ sumOf (autoBy F n i f) (autoBy G m i′ f′) .step l k j
-      go l k j h (yes g) = ap (λ v. bitOf v j) (if-low k n (F l k) (G l (k - n) * 2 ^ n) g) ∙ side (decLt j n) ∙ sym (ap (λ r. r j) (if-low k n (first l k) (second l k) g))
-        where
-          side : Dec (j < n) → bitOf (F l k) j ≡ first l k j
-          side (yes z) = sym (if-low j n (bitOf (F l k) j) false z)
-          side (no z) = bit-high n (hF l k h g) j (omega arith) ∙ sym (if-high j n (bitOf (F l k) j) false (omega arith))
-      go l k j h (no g) = ap (λ v. bitOf v j) (if-high k n (F l k) (G l (k - n) * 2 ^ n) (omega arith)) ∙ side (decLt j n) ∙ sym (ap (λ r. r j) (if-high k n (first l k) (second l k) (omega arith)))
-        where
-          side : Dec (j < n) → bitOf (G l (k - n) * 2 ^ n) j ≡ second l k j
-          side (yes z) = bit-shl-low (G l (k - n)) n j z ∙ sym (if-low j n false (bitOf (G l (k - n)) (j - n)) z)
-          side (no z) = ap (bitOf (G l (k - n) * 2 ^ n)) back ∙ bit-shl (G l (k - n)) n (j - n) ∙ sym (if-high j n false (bitOf (G l (k - n)) (j - n)) (omega arith))
-            where
-              back : j ≡ n + (j - n)
-              back = omega arith
+      go l k j h (yes g) =
+          ap (λ v. bitOf v j) (if-low k n (F l k) (G l (k - n) * 2 ^ n) g) ∙ alone-bits n (F l k) (hF l k h g) j
+          ∙ sym (ap (λ r. r j) (if-low k n (first l k) (second l k) g))
+      go l k j h (no g) =
+          ap (λ v. bitOf v j) (if-high k n (F l k) (G l (k - n) * 2 ^ n) (omega arith)) ∙ moved-bits n (G l (k - n)) j
+          ∙ sym (ap (λ r. r j) (if-high k n (first l k) (second l k) (omega arith)))

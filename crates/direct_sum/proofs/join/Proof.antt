@@ -1,19 +1,25 @@
 -- `join`: the blocks below l have the rows of both.
 use mathlib.Core.Path.{_≡_}
-use Prim.Native.Nat.{_-_, _≤_}
+use Prim.Native.Nat.{_+_, _-_, _≤_}
 use native.Mathlib.Omega.{arith}
-use Rattle.direct_sum.proofs.SumLaws.{Besides, besides-start, besides-step, besides-end}
+use Rattle.rows.specs.Table.{at}
+use Rattle.rows.specs.Beside.{beside}
+use Rattle.direct_sum.specs.Filled.{ChangedUpTo}
+use Rattle.direct_sum.proofs.Changing.{up-to-start, up-to-end}
+use Rattle.direct_sum.proofs.SumLaws.{besides-step}
 use Rattle.direct_sum.proofs.join.Statement.{statement}
 use Rattle.direct_sum.proofs.join.Tie as tie
 
 abbrev Inv-loop : tie.InvT-loop
-Inv-loop t₀ u a n k l₀ t l = (l ≤ a) × Besides l n k t₀ u t
+Inv-loop t₀ u a n k l₀ t l = (l ≤ a) × ChangedUpTo l (n + k) (beside (at t₀) (at u) n) t₀ t
 
 abbrev μ-loop : tie.MeasureT-loop
 μ-loop t₀ u a n k l₀ t l = a - l
 
 loop-holds : tie.Need-loop-holds Inv-loop μ-loop
-loop-holds c = (omega arith, besides-start (c .args .n) (c .args .k) (c .args .t .now) (c .args .u .now) (c .pre .4))
+loop-holds c =
+    let a = c .args in
+    (omega arith, up-to-start (a .n + a .k) (beside (at (a .t .now)) (at (a .u .now)) (a .n)) (a .t .now) (c .pre .4))
 
 join-block-requires : tie.Need-join-block-requires Inv-loop μ-loop
 join-block-requires c κs =
@@ -39,7 +45,7 @@ returns c =
     let v = c .before .loop in
     let a = c .before .before .args in
     let e : v .l ≡ a .a = omega arith in
-    besides-end (a .a) (a .n) (a .k) (a .t .now) (a .u .now) (v .t) (rw e at (v .inv .1))
+    up-to-end (a .n + a .k) (beside (at (a .t .now)) (at (a .u .now)) (a .n)) (a .t .now) (a .a) (v .t) (rw e at (v .inv .1))
 
 pub join-spec : {M : Type 1} → statement M
 join-spec =

@@ -1,0 +1,3 @@
+pub mod OpenedLaws
+pub mod BuiltLaws
+pub mod ProductLaws

@@ -1,0 +1,3 @@
+pub mod RenewedLaws
+pub mod BuiltLaws
+pub mod StarLaws
