@@ -6,7 +6,6 @@
 --   concatenationOf A B    A, then B: accepts the concatenation
 --   starOf A           A beside one state more: accepts the star
 --   stateless          the automaton with no states: accepts no word
---   emptyWordOf        one state that no letter leaves: accepts the empty word only
 use mathlib.Core.Bool.{Bool, true, false, _&&_, cond}
 use Prim.Native.Nat.{ℕ, _+_, _-_, _*_, _/_, _%_}
 use lib.Dec.{ltb}
@@ -72,6 +71,3 @@ starOf A = record {
       (λ i. joined (A .states) (λ j. A .step l i j ⊕ (A .final i && times A l (A .initial) j)) (λ j. false))
       (λ i. joined (A .states) (times A l (A .initial)) (λ j. false));
 }
-
-abbrev pub emptyWordOf : Automaton
-emptyWordOf = record { states = 1; initial = λ i. true; final = λ i. true; step = λ l i j. false }

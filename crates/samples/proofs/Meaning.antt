@@ -12,13 +12,14 @@ use Rattle.automata.specs.Language.{Same}
 use Rattle.automata.specs.FirstDifference.{firstDifference}
 use Rattle.automata.proofs.Minimal.{sum-cong}
 use Rattle.automata.proofs.Operations.{accepts-sum, accepts-meet, accepts-complement, accepts-mirror}
+use Rattle.automata.proofs.StarOf.{accepts-star}
 use Rattle.automata.proofs.FirstDifference.{difference-none, difference-some}
 use Rattle.record.specs.Record.{statesOf, lettersOf, checkOf, WellFormed, automatonOf, languageOf}
 use Rattle.record.specs.Claims.{MinimalForm}
 use Rattle.record.proofs.Claims.{form-same, minimal-record}
 use Rattle.minimal.specs.Minimal.{minimalBytes}
 use Rattle.minimal.proofs.MinimalLaws.{minimal-bytes}
-use Rattle.samples.specs.Claims.{Task, minimal, sum, meet, inverse, mirror, lettersFor, languageFor, Result, Claim, accepted, rejected, paths, speaks, gives, differ, Means}
+use Rattle.samples.specs.Claims.{Task, minimal, sum, meet, inverse, mirror, repetition, lettersFor, languageFor, Result, Claim, accepted, rejected, paths, speaks, gives, differ, Means}
 use Rattle.samples.specs.Answers.{automatonFor}
 use Rattle.samples.proofs.Data.{Passed, good-true, same-true, none-true, word-true, allBelow, below-true}
 use Rattle.samples.proofs.Names.{machine, lettersIn, machine-words}
@@ -51,6 +52,7 @@ task-words (sum bs cs) a w ow = sym (accepts-sum (automatonOf bs) (automatonOf c
 task-words (meet bs cs) a w ow = sym (accepts-meet (automatonOf bs) (automatonOf cs) w)
 task-words (inverse bs) a w ow = sym (accepts-complement (automatonOf bs) w)
 task-words (mirror bs) a w ow = sym (accepts-mirror (automatonOf bs) w)
+task-words (repetition bs) a w ow = sym (accepts-star (automatonOf bs) w)
 
 module _ (t : Task) (r : List ℕ) (n d : ℕ) (p : Passed (tests (gives t r n d))) where
   pub formed : WellFormed r

@@ -1,13 +1,13 @@
 -- A claim that passes its tests is one of what the services return.
 use mathlib.Core.Path.{_≡_, refl, sym, ap, ap₂, subst, _∙_}
-use mathlib.Core.Bool.{Bool, true, false}
+use mathlib.Core.Bool.{Bool, true, false, not}
 use mathlib.Core.List.{List, [], _∷_}
 use mathlib.Core.Option.{some}
 use Prim.Native.Nat.{ℕ, _+_, _*_}
 use native.Mathlib.Omega.{arith}
 use lib.Dec.{leb}
 use lib.ListN.{length}
-use borrow.Author.Tests.{leb-true, lt-leb}
+use borrow.Author.Tests.{leb-true, lt-leb, not-true}
 use Rattle.automata.specs.Automaton.{odd, accepts}
 use Rattle.automata.specs.Word.{Over}
 use Rattle.automata.specs.MinimalOf.{minimalOf, dimensionOf}
@@ -36,9 +36,10 @@ use Rattle.compare.proofs.Claims.{side-named}
 use Rattle.results.specs.Results.{resultOf}
 use Rattle.operations.specs.Operations.{sumOutcome, unaryOutcome}
 use Rattle.intersection.specs.Meet.{maxProduct, crossing, meetOutcome}
-use Rattle.samples.specs.Claims.{Task, minimal, sum, meet, inverse, mirror, lettersFor, Claim, accepted, rejected, paths, speaks, gives, differ}
+use Rattle.star.specs.Star.{lacking, starOutcome}
+use Rattle.samples.specs.Claims.{Task, minimal, sum, meet, inverse, mirror, repetition, lettersFor, Claim, accepted, rejected, paths, speaks, gives, differ}
 use Rattle.samples.specs.Answers.{automatonFor, outcomeOf, verdict, DiffersBy, Returned}
-use Rattle.samples.proofs.Data.{Passed, good-true, both, both-true, word-true}
+use Rattle.samples.proofs.Data.{Passed, good, good-true, both, both-true, word-true}
 use Rattle.samples.proofs.Test.{tests}
 use Rattle.samples.proofs.Meaning.{formed, over, states, own, same, holds}
 
@@ -86,9 +87,9 @@ module _ (t : Task) (r : List ℕ) (n d : ℕ) (p : Passed (tests (gives t r n d
 itself : (bs cs : List ℕ) → both (pairOf bs cs) ≡ true → cs ≡ meantOver (lettersOf bs) cs
 itself bs cs p = meant-formed (lettersOf bs) cs (both-passed bs cs (both-true (pairOf bs cs) p) .1)
 
--- The checks pass, for meet row 10 too.
+-- The checks pass, for meet row 10 too, for the star row 14.
 outcome : (t : Task) (r : List ℕ) (n d : ℕ) → Passed (tests (gives t r n d)) → (room : ℕ) → outcomeOf t room ≡ fit room r
-unfolding minimalBytes minimalOutcome sumOutcome meetOutcome unaryOutcome
+unfolding minimalBytes minimalOutcome sumOutcome meetOutcome unaryOutcome starOutcome
 outcome (minimal bs) r n d p room = ap (λ c. checked c 1 (fit room (minimalBytes bs))) (good-true (checkOf bs) (p .0)) ∙ ap (fit room) (written-bytes (minimal bs) r n d p)
 outcome (sum bs cs) r n d p room =
     subst (λ x. sumOutcome bs x room ≡ fit room r) (itself bs cs (p .0))
@@ -103,6 +104,12 @@ outcome (meet bs cs) r n d p room =
     ∙ result (meet bs cs) r n d p room)
 outcome (inverse bs) r n d p room = ap (λ c. checked c 1 (resultOf (lettersOf bs) (automatonFor (inverse bs)) room)) (good-true (checkOf bs) (p .0)) ∙ result (inverse bs) r n d p room
 outcome (mirror bs) r n d p room = ap (λ c. checked c 1 (resultOf (lettersOf bs) (automatonFor (mirror bs)) room)) (good-true (checkOf bs) (p .0)) ∙ result (mirror bs) r n d p room
+outcome (repetition bs) r n d p room =
+    let rest : Outcome = resultOf (lettersOf bs) (automatonFor (repetition bs)) room in
+    let t = and-parts (good (checkOf bs)) (not (accepts (automatonOf bs) [])) (p .0) in
+    ap (λ c. checked c 1 (lacking (accepts (automatonOf bs) []) rest)) (good-true (checkOf bs) (t .0))
+    ∙ ap (λ b. lacking b rest) (not-true (accepts (automatonOf bs) []) (t .1))
+    ∙ result (repetition bs) r n d p room
 
 -- ---- the comparison
 

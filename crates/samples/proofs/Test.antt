@@ -16,8 +16,8 @@ use Rattle.minimal.specs.Minimal.{minimalBytes}
 use Rattle.compare.specs.Compare.{acceptorOf}
 use Rattle.intersection.specs.Meet.{maxProduct}
 use Rattle.catalogue.specs.Entries.{entryOf, lettersAt, recordOf}
-use Rattle.samples.specs.Claims.{Task, minimal, sum, meet, inverse, mirror, lettersFor, Claim, accepted, rejected, paths, speaks, gives, differ}
-use Rattle.samples.specs.Table.{x12, x, noStates, oneState, twoPaths, zeroStar, oneStar, cycle, starSum, firstOne, samples, Every}
+use Rattle.samples.specs.Claims.{Task, minimal, sum, meet, inverse, mirror, repetition, lettersFor, Claim, accepted, rejected, paths, speaks, gives, differ}
+use Rattle.samples.specs.Table.{x12, x, noStates, oneState, twoPaths, zeroStar, oneStar, cycle, starSum, firstOne, nonempty, emptyOrZero, samples, Every}
 use Rattle.samples.specs.Answers.{automatonFor}
 use Rattle.samples.proofs.Data.{every, good, both, sameList, noWord, isWord, allBelow}
 use Rattle.samples.proofs.Names.{machine, lettersIn, known}
@@ -32,13 +32,14 @@ atEnd A i = cond (A .final i) 1 0
 abbrev pub steady : ℕ → Automaton → Bool
 steady a A = allBelow a (λ l. allBelow (A .states) (λ i. eqb (sumBelow (A .states) (λ j. cond (A .step l i j) (atEnd A j) 0)) (atEnd A i)))
 
--- What the service checks, row 10 included.
+-- What the service checks, rows 10 and 14 included.
 abbrev pub passes : Task → Bool
 passes (minimal bs) = good (checkOf bs)
 passes (sum bs cs) = both (pairOf bs cs)
 passes (meet bs cs) = both (pairOf bs cs) && leb (dimensionOf (lettersOf bs) (automatonOf bs) * dimensionOf (lettersOf bs) (automatonOf cs)) maxProduct
 passes (inverse bs) = good (checkOf bs)
 passes (mirror bs) = good (checkOf bs)
+passes (repetition bs) = good (checkOf bs) && not (accepts (automatonOf bs) [])
 
 -- Each claim's tests. Of a result: the record r is its own minimal record, with d states, and accepts the words of the result; that is
 -- less to compute than the minimal record of the result.
@@ -79,5 +80,5 @@ passing (c ∷ cs) = every (tests c) && passing cs
 
 -- One computation for each sample.
 pub table-passes : Every (λ s. passing s ≡ true) samples
-unfolding samples x12 x noStates oneState twoPaths zeroStar oneStar cycle starSum firstOne recordOf entryOf lettersAt frontOf checkOf strayFrom pairOf number bytesOf allBytes encode minimalOf minimalBytes basisWords dimensionOf firstDifference foreignFrom
-table-passes = (refl, (refl, (refl, (refl, (refl, (refl, (refl, (refl, tt))))))))
+unfolding samples x12 x noStates oneState twoPaths zeroStar oneStar cycle starSum firstOne nonempty emptyOrZero recordOf entryOf lettersAt frontOf checkOf strayFrom pairOf number bytesOf allBytes encode minimalOf minimalBytes basisWords dimensionOf firstDifference foreignFrom
+table-passes = (refl, (refl, (refl, (refl, (refl, (refl, (refl, (refl, (refl, tt)))))))))

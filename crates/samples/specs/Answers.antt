@@ -14,7 +14,7 @@ use lib.ListN.{length}
 use Rattle.automata.specs.Automaton.{Automaton, odd}
 use Rattle.automata.specs.Word.{Over}
 use Rattle.automata.specs.MinimalOf.{dimensionOf}
-use Rattle.automata.specs.Operations.{sumOf, meetOf, complementOf, mirrorOf}
+use Rattle.automata.specs.Operations.{sumOf, meetOf, complementOf, mirrorOf, starOf}
 use Rattle.record.specs.Record.{lettersOf, automatonOf}
 use Rattle.record.specs.Outcome.{Outcome, answerOf, bufferOf, fit}
 use Rattle.record.specs.declared.Written.{Written}
@@ -29,8 +29,9 @@ use Rattle.compare.specs.declared.Side.{Side}
 use Rattle.compare.specs.declared.Compared.the-variants.{Differs, Refused as Withheld}
 use Rattle.operations.specs.Operations.{sumOutcome, complementOutcome, mirrorOutcome}
 use Rattle.intersection.specs.Meet.{meetOutcome}
+use Rattle.star.specs.Star.{starOutcome}
 use Rattle.samples.specs.Languages.{wordsIn}
-use Rattle.samples.specs.Claims.{Task, minimal, sum, meet, inverse, mirror, lettersFor, Claim, accepted, rejected, paths, speaks, gives, differ}
+use Rattle.samples.specs.Claims.{Task, minimal, sum, meet, inverse, mirror, repetition, lettersFor, Claim, accepted, rejected, paths, speaks, gives, differ}
 
 abbrev pub automatonFor : Task → Automaton
 automatonFor (minimal bs) = automatonOf bs
@@ -38,6 +39,7 @@ automatonFor (sum bs cs) = sumOf (automatonOf bs) (automatonOf cs)
 automatonFor (meet bs cs) = meetOf (automatonOf bs) (automatonOf cs)
 automatonFor (inverse bs) = complementOf (automatonOf bs)
 automatonFor (mirror bs) = mirrorOf (automatonOf bs)
+automatonFor (repetition bs) = starOf (automatonOf bs)
 
 abbrev pub outcomeOf : Task → ℕ → Outcome
 outcomeOf (minimal bs) = minimalOutcome bs
@@ -45,6 +47,7 @@ outcomeOf (sum bs cs) = asMeant sumOutcome bs cs
 outcomeOf (meet bs cs) = asMeant meetOutcome bs cs
 outcomeOf (inverse bs) = complementOutcome bs
 outcomeOf (mirror bs) = mirrorOutcome bs
+outcomeOf (repetition bs) = starOutcome bs
 
 pub record Served (t : Task) (r : List ℕ) (d : ℕ) : Type 0 where
   pub bytes : (room : ℕ) → outcomeOf t room ≡ fit room r

@@ -13,6 +13,7 @@ use lib.ListN.{length}
 use Rattle.automata.specs.Automaton.{pathCount}
 use Rattle.automata.specs.Word.{Over}
 use Rattle.automata.specs.Language.{Language, Same, symmetricDifference, intersection, complement, reversal}
+use Rattle.automata.specs.Cuts.{star}
 use Rattle.record.specs.Record.{statesOf, lettersOf, automatonOf, languageOf}
 use Rattle.record.specs.Claims.{MinimalRecord}
 use Rattle.compare.specs.Compare.{Differ}
@@ -26,6 +27,8 @@ pub data Task : Type 0 where
   -- 01: complement.
   inverse : List ℕ → Task
   mirror : List ℕ → Task
+  -- 02: star.
+  repetition : List ℕ → Task
 
 abbrev pub lettersFor : Task → ℕ
 lettersFor (minimal bs) = lettersOf bs
@@ -33,6 +36,7 @@ lettersFor (sum bs cs) = lettersOf bs
 lettersFor (meet bs cs) = lettersOf bs
 lettersFor (inverse bs) = lettersOf bs
 lettersFor (mirror bs) = lettersOf bs
+lettersFor (repetition bs) = lettersOf bs
 
 abbrev pub languageFor : Task → Language
 languageFor (minimal bs) = languageOf bs
@@ -40,6 +44,7 @@ languageFor (sum bs cs) = symmetricDifference (languageOf bs) (languageOf cs)
 languageFor (meet bs cs) = intersection (languageOf bs) (languageOf cs)
 languageFor (inverse bs) = complement (languageOf bs)
 languageFor (mirror bs) = reversal (languageOf bs)
+languageFor (repetition bs) = star (languageOf bs)
 
 pub record Result (t : Task) (r : List ℕ) (n d : ℕ) : Type 0 where
   pub size : length r ≡ n

@@ -1,6 +1,6 @@
--- The starred samples as one table (01: Samples, 1 to 8).
+-- The starred samples as one table (01: Samples, 1 to 8), and the case of the star (02: Note 2).
 --   bytes n a fields    the record of n states over a letters: I, F and the rows
---   samples             what each starred sample says, in 01's order
+--   samples             what each starred sample says, in 01's order, and last the case
 --   Every P xs          P holds of each member of a list
 use mathlib.Core.List.{List, [], _∷_, _++_}
 use Prim.Native.Nat.{ℕ, zero, suc, _+_, _*_}
@@ -9,8 +9,8 @@ use Rattle.record.specs.Bytes.{allBytes}
 use Rattle.record.specs.Record.{rowBytes, headOf}
 use Rattle.compare.specs.declared.Side.the-variants.{Second}
 use Rattle.catalogue.specs.Entries.{recordOf}
-use Rattle.samples.specs.Languages.{entry, beginning, star}
-use Rattle.samples.specs.Claims.{minimal, sum, meet, inverse, mirror, Claim, accepted, rejected, paths, speaks, gives, differ}
+use Rattle.samples.specs.Languages.{entry, beginning, star, some, atMostZero}
+use Rattle.samples.specs.Claims.{minimal, sum, meet, inverse, mirror, repetition, Claim, accepted, rejected, paths, speaks, gives, differ}
 
 -- ---- the records
 
@@ -57,6 +57,13 @@ starSum = bytes 2 2 (1 ∷ 2 ∷ 2 ∷ 2 ∷ 3 ∷ 0 ∷ [])
 
 unfoldable pub firstOne : List ℕ
 firstOne = bytes 2 2 (1 ∷ 2 ∷ 0 ∷ 2 ∷ 2 ∷ 2 ∷ [])
+
+-- All nonempty words over one letter; the empty word and 0.
+unfoldable pub nonempty : List ℕ
+nonempty = bytes 2 1 (1 ∷ 2 ∷ 2 ∷ 2 ∷ [])
+
+unfoldable pub emptyOrZero : List ℕ
+emptyOrZero = bytes 2 1 (1 ∷ 3 ∷ 2 ∷ 0 ∷ [])
 
 -- ---- the samples
 
@@ -114,8 +121,17 @@ sample7 = gives (minimal cycle) (recordOf 5) 27 3 ∷ speaks cycle (entry 5) ∷
 abbrev sample8 : List Claim
 sample8 = gives (mirror (recordOf 3)) firstOne 31 2 ∷ speaks firstOne beginning ∷ speaks (recordOf 3) (entry 3) ∷ []
 
+-- 02, Note 2. All nonempty words over one letter, dimension 2, have as star the empty word and 0, dimension 2.
+abbrev caseOfStar : List Claim
+caseOfStar =
+    speaks nonempty some
+    ∷ gives (minimal nonempty) nonempty 23 2
+    ∷ gives (repetition nonempty) emptyOrZero 23 2
+    ∷ speaks emptyOrZero atMostZero
+    ∷ []
+
 unfoldable pub samples : List (List Claim)
-samples = sample1 ∷ sample2 ∷ sample3 ∷ sample4 ∷ sample5 ∷ sample6 ∷ sample7 ∷ sample8 ∷ []
+samples = sample1 ∷ sample2 ∷ sample3 ∷ sample4 ∷ sample5 ∷ sample6 ∷ sample7 ∷ sample8 ∷ caseOfStar ∷ []
 
 -- ---- what holds of a table
 
