@@ -4,130 +4,12 @@
 #include <algorithm>
 #include <utility>
 
+#include "bits.hpp"
+#include "halves.hpp"
+
 namespace second {
 
 namespace {
-
-using Parts = std::vector<Bits>;   // one vector for each operand
-
-void add(Bits& target, const Bits& other)
-{
-    const std::size_t size = target.size();
-    unsigned char* const to = target.data();
-    const unsigned char* const from = other.data();
-    for (std::size_t i = 0; i < size; ++i) {
-        to[i] ^= from[i];
-    }
-}
-
-unsigned char product(const Bits& row, const Bits& column)
-{
-    const std::size_t size = row.size();
-    unsigned char parity = 0;
-    for (std::size_t i = 0; i < size; ++i) {
-        parity ^= row[i] & column[i];
-    }
-    return parity;
-}
-
-// The states reached by an odd number of paths, one letter further on.
-Bits row_after(const Machine& machine, const Bits& row, std::size_t letter)
-{
-    Bits next(machine.states, 0);
-    for (std::size_t from = 0; from < machine.states; ++from) {
-        if (row[from] != 0) {
-            add(next, machine.rows[letter][from]);
-        }
-    }
-    return next;
-}
-
-// From which states an odd number of paths leads to acceptance, with one letter put in front.
-Bits column_before(const Machine& machine, const Bits& column, std::size_t letter)
-{
-    Bits next(machine.states, 0);
-    for (std::size_t from = 0; from < machine.states; ++from) {
-        next[from] = product(machine.rows[letter][from], column);
-    }
-    return next;
-}
-
-// A mirrored language reads its words from the end, so rows and columns change places.
-Parts front_of_empty(const Language& language)
-{
-    Parts front;
-    for (const Machine& machine : language.operands) {
-        front.push_back(language.kind == Kind::mirror ? machine.accepting : machine.initial);
-    }
-    return front;
-}
-
-Parts front_after(const Language& language, const Parts& front, std::size_t letter)
-{
-    Parts next;
-    for (std::size_t i = 0; i < front.size(); ++i) {
-        const Machine& machine = language.operands[i];
-        next.push_back(language.kind == Kind::mirror ? column_before(machine, front[i], letter)
-                                                     : row_after(machine, front[i], letter));
-    }
-    return next;
-}
-
-Parts back_of_empty(const Language& language)
-{
-    Parts back;
-    for (const Machine& machine : language.operands) {
-        back.push_back(language.kind == Kind::mirror ? machine.initial : machine.accepting);
-    }
-    return back;
-}
-
-Parts back_before(const Language& language, const Parts& back, std::size_t letter)
-{
-    Parts next;
-    for (std::size_t i = 0; i < back.size(); ++i) {
-        const Machine& machine = language.operands[i];
-        next.push_back(language.kind == Kind::mirror ? row_after(machine, back[i], letter)
-                                                     : column_before(machine, back[i], letter));
-    }
-    return next;
-}
-
-// Whether the word uv is in the language, given the front of u and the back of v.
-bool truth(const Language& language, const Parts& front, const Parts& back)
-{
-    const bool first = product(front[0], back[0]) != 0;
-    switch (language.kind) {
-    case Kind::sum:
-        return first != (product(front[1], back[1]) != 0);
-    case Kind::meet:
-        return first && product(front[1], back[1]) != 0;
-    case Kind::complement:
-        return !first;
-    default:
-        return first;
-    }
-}
-
-// A vector on which the truth depends linearly, whatever the front: where these vectors
-// are dependent, so are the truths.
-Bits spread(const Language& language, const Parts& back)
-{
-    Bits all = back[0];
-    if (language.kind == Kind::sum) {
-        all.insert(all.end(), back[1].begin(), back[1].end());
-    } else if (language.kind == Kind::complement) {
-        all.push_back(1);
-    } else if (language.kind == Kind::meet) {
-        all.clear();
-        for (unsigned char one : back[0]) {
-            for (unsigned char two : back[1]) {
-                all.push_back(one & two);
-            }
-        }
-    }
-    return all;
-}
 
 // Independent vectors, each cleared of the leading entries of those before it.
 class Echelon {
@@ -322,7 +204,7 @@ Difference first_difference(const Machine& one, const Machine& two)
         found.word.push_back(static_cast<std::uint8_t>(letter));
         front = std::move(next);
     }
-    found.side = product(front[0], one.accepting) != 0 ? 1 : 2;
+    found.side = parity(front[0], one.accepting) != 0 ? 1 : 2;
     return found;
 }
 
