@@ -134,6 +134,31 @@ Oracle oracle_of(const Machine& machine)
     return Oracle([machine](const Word& word) { return path_count(machine, word) % 2 == 1; });
 }
 
+std::size_t cuts_into_two(Oracle& one, Oracle& other, const Word& word)
+{
+    std::size_t count = 0;
+    for (auto cut = word.begin();; ++cut) {
+        count += one(Word(word.begin(), cut)) && other(Word(cut, word.end())) ? 1 : 0;
+        if (cut == word.end()) {
+            return count;
+        }
+    }
+}
+
+std::size_t cuts_into_words(Oracle& language, const Word& word)
+{
+    if (word.empty()) {
+        return 1;
+    }
+    std::size_t count = 0;
+    for (auto cut = word.begin() + 1;; ++cut) {
+        count += language(Word(word.begin(), cut)) ? cuts_into_words(language, Word(cut, word.end())) : 0;
+        if (cut == word.end()) {
+            return count;
+        }
+    }
+}
+
 std::size_t table_rank(Oracle& language, std::size_t bound, std::size_t letters)
 {
     const std::vector<Word> words = words_shorter_than(bound, letters);

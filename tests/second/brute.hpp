@@ -32,6 +32,13 @@ private:
 
 Oracle oracle_of(const Machine& machine);
 
+// The number of cuts of a word into a word of the one and then a word of the other; either may be empty.
+std::size_t cuts_into_two(Oracle& one, Oracle& other, const Word& word);
+
+// The number of cuts of a word into words of the language, none of them empty, each cut followed to its end.
+// The empty word has one, into none.
+std::size_t cuts_into_words(Oracle& language, const Word& word);
+
 // The rank of the table of uv over all words u, v shorter than the bound, as the
 // logarithm of the number of xors of its rows.
 std::size_t table_rank(Oracle& language, std::size_t bound, std::size_t letters);

@@ -38,6 +38,7 @@ Machine delayed(const Word& word, const Machine& machine);      // this word, th
 Machine rebased(Chance& chance, const Machine& machine);        // other rows, the same language
 Machine unreachable(Chance& chance, const Machine& machine, std::size_t states);  // states no word leads to
 Machine unobservable(Chance& chance, const Machine& machine, std::size_t states); // states no suffix tells apart
+Machine without_empty_word(Machine machine);   // one final state fewer, where the empty word was accepted
 
 // The same language in exactly this many states, though another basis and further states hide it.
 Machine disguised(Chance& chance, const Machine& machine, std::size_t states);

@@ -207,6 +207,22 @@ Machine unobservable(Chance& chance, const Machine& machine, std::size_t states)
     return result;
 }
 
+Machine without_empty_word(Machine machine)
+{
+    std::size_t common = 0;
+    std::size_t last = 0;
+    for (std::size_t i = 0; i < machine.states; ++i) {
+        if (machine.initial[i] != 0 && machine.accepting[i] != 0) {
+            ++common;
+            last = i;
+        }
+    }
+    if (common % 2 == 1) {
+        machine.accepting[last] = 0;
+    }
+    return machine;
+}
+
 Machine disguised(Chance& chance, const Machine& machine, std::size_t states)
 {
     const std::size_t half = chance.between(machine.states, states);

@@ -6,8 +6,9 @@
 
 namespace second {
 
-// How a language is made from the languages of its operands (two for sum and meet, else one).
-enum class Kind { own, mirror, sum, meet, complement };
+// How a language is made from the languages of its operands (two for sum, meet and product, else one). A star is asked for only where its
+// operand does not accept the empty word.
+enum class Kind { own, mirror, sum, meet, complement, product, star };
 
 struct Language {
     Kind kind = Kind::own;

@@ -163,6 +163,28 @@ Reply mirror(const Bytes& record, Bytes& out)
     return lend_minimal(minimal_machine({Kind::mirror, {read_record(record)}}), out);
 }
 
+Reply product(const Bytes& first, const Bytes& other, Bytes& out)
+{
+    const Pair pair = read_both(first, other);
+    if (refused(pair.fault)) {
+        return pair.fault;
+    }
+    return lend_minimal(minimal_machine({Kind::product, {pair.one, pair.two}}), out);
+}
+
+Reply star(const Bytes& record, Bytes& out)
+{
+    const Reply fault = check(record);
+    if (refused(fault)) {
+        return fault;
+    }
+    const Machine machine = read_record(record);
+    if (accepts(machine, {})) {
+        return refuse(14, 1, 0);
+    }
+    return lend_minimal(minimal_machine({Kind::star, {machine}}), out);
+}
+
 namespace {
 
 // A machine that is in one state at a time: step[letter][state] is the next one.

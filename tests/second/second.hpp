@@ -24,6 +24,8 @@ Reply sum(const Bytes& first, const Bytes& other, Bytes& out);
 Reply meet(const Bytes& first, const Bytes& other, Bytes& out);
 Reply complement(const Bytes& record, Bytes& out);
 Reply mirror(const Bytes& record, Bytes& out);
+Reply product(const Bytes& first, const Bytes& other, Bytes& out);
+Reply star(const Bytes& record, Bytes& out);
 Reply catalogue(std::size_t number, Bytes& out);
 Reply mark(const Bytes& script, std::size_t index, Bytes& out);
 

@@ -54,6 +54,20 @@ Machine small(Chance& chance, std::size_t most, std::size_t letters)
                             : generate::scattered(chance, states, letters, 1, 2);
 }
 
+// Row 14 exactly where the empty word is accepted, else the star.
+void brute_star(const Machine& machine, std::size_t number)
+{
+    const Bytes record = write_record(machine);
+    brute::Oracle language = brute::oracle_of(machine);
+    if (language({})) {
+        expect(selftest::is_refusal(reply_of(second::star, record), 14, 1, 0), "brute star of the empty word", number);
+        return;
+    }
+    brute::Oracle repeated([&](const Word& word) { return brute::cuts_into_words(language, word) % 2 == 1; });
+    expect(bytes_of(second::star, record) == brute::minimal_record(repeated, machine.states + 1, machine.letters),
+           "brute star", number);
+}
+
 void brute_single(Chance& chance, std::size_t number)
 {
     const std::size_t letters = chance.between(1, 2);
@@ -73,6 +87,7 @@ void brute_single(Chance& chance, std::size_t number)
     brute::Oracle lacking([&](const Word& word) { return !language(word); });
     expect(bytes_of(second::complement, record) == brute::minimal_record(lacking, machine.states + 1, letters),
            "brute complement", number);
+    brute_star(machine, number);
 }
 
 // A second record for this machine: its own, or one of 0 bytes where that means the same.
@@ -106,6 +121,7 @@ void brute_pair(Chance& chance, std::size_t number)
     brute::Oracle other = brute::oracle_of(two);
     brute::Oracle either([&](const Word& word) { return first(word) != other(word); });
     brute::Oracle both([&](const Word& word) { return first(word) && other(word); });
+    brute::Oracle chain([&](const Word& word) { return brute::cuts_into_two(first, other, word) % 2 == 1; });
     const Bytes first_record = write_record(one);
     const Bytes other_record = second_record(chance, two);
     expect(bytes_of(second::sum, first_record, other_record)
@@ -114,6 +130,9 @@ void brute_pair(Chance& chance, std::size_t number)
     expect(bytes_of(second::meet, first_record, other_record)
                == brute::minimal_record(both, one.states * two.states, letters),
            "brute meet", number);
+    expect(bytes_of(second::product, first_record, other_record)
+               == brute::minimal_record(chain, one.states + two.states, letters),
+           "brute product", number);
 }
 
 // Rows of states, each cleared of the leading entries of those before it.
@@ -231,6 +250,7 @@ int main(int argc, char** argv)
     const std::size_t seed = argument(argc, argv, 1, 1);
     const std::size_t rounds = argument(argc, argv, 2, 4000);
     selftest::all_samples();
+    selftest::cut_samples();
     for (std::size_t number = 0; number < rounds; ++number) {
         Chance chance = generate::chance_of(seed, number);
         brute_single(chance, number);
@@ -238,6 +258,7 @@ int main(int argc, char** argv)
         brute_pair(chance, number);
         if (number % 8 == 0) {
             large_pair(chance, number);
+            selftest::large_cuts(chance, number);
         }
     }
     return selftest::finish();

@@ -1,40 +1,11 @@
 // Self-test of the second program, first part: the samples, the refusal table and the catalogue of 01.
 #include <string>
 
-#include "generate.hpp"
 #include "selftest.hpp"
 
 namespace selftest {
 
 namespace {
-
-bool is_refusal(const Reply& reply, std::size_t number, std::size_t record, std::size_t place)
-{
-    return reply.number == number && reply.record == record && reply.place == place && reply.length == 0
-        && reply.value == 0;
-}
-
-Bytes power(std::size_t letter, std::size_t length, std::size_t letters)
-{
-    return second::write_record(generate::only_power(letter, length, letters));
-}
-
-Bytes catalogue(std::size_t number)
-{
-    return bytes_of(second::catalogue, number);
-}
-
-// A record from numbers worth the bits of its rows.
-Bytes fields(std::uint8_t n, std::uint8_t a, const std::vector<unsigned>& rows)
-{
-    Bytes bytes = {0x4E, 0x58, 0x41, 1, 0, n, a};
-    for (unsigned row : rows) {
-        for (int i = 0; i < 4; ++i) {
-            bytes.push_back(static_cast<std::uint8_t>(row >> (8 * i)));
-        }
-    }
-    return bytes;
-}
 
 const Bytes x12 = fields(4, 2, {1, 3, 2, 4, 1, 8, 1, 1, 8, 8});
 const Bytes x_minimal = fields(2, 2, {1, 3, 2, 3, 1, 1});
@@ -104,7 +75,7 @@ void service_refusals()
 void blanks()
 {
     const Bytes blank;
-    for (const auto service : {second::compare, second::sum, second::meet}) {
+    for (const auto service : {second::compare, second::sum, second::meet, second::product}) {
         expect(is_refusal(reply_of(service, blank, blank), 1, 1, 0), "both of 0 bytes");
         expect(is_refusal(reply_of(service, blank, x12), 1, 1, 0), "the first of 0 bytes");
         expect(is_refusal(reply_of(service, fields(1, 1, {2, 0, 0}), blank), 7, 1, 7), "a refused first before a blank");
@@ -122,6 +93,7 @@ void blanks()
                "nothing is the same as a blank", letters);
         expect(bytes_of(second::sum, first, blank) == first, "the sum with a blank", letters);
         expect(bytes_of(second::meet, first, blank) == none, "the meet with a blank", letters);
+        expect(bytes_of(second::product, first, blank) == none, "the product with a blank", letters);
         Bytes shorter(14, 7);
         expect(is_refusal(second::meet(first, blank, shorter), 12, 0, 15) && shorter == Bytes(14, 7), "row 12 with a blank", letters);
     }
