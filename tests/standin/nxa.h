@@ -29,6 +29,9 @@ nxa_reply nxa_meet(const uint8_t *first, size_t first_len, const uint8_t *second
                    uint8_t *out, size_t out_len);
 nxa_reply nxa_complement(const uint8_t *record, size_t record_len, uint8_t *out, size_t out_len);
 nxa_reply nxa_mirror(const uint8_t *record, size_t record_len, uint8_t *out, size_t out_len);
+nxa_reply nxa_product(const uint8_t *first, size_t first_len, const uint8_t *second, size_t second_len,
+                      uint8_t *out, size_t out_len);
+nxa_reply nxa_star(const uint8_t *record, size_t record_len, uint8_t *out, size_t out_len);
 nxa_reply nxa_catalogue(size_t number, uint8_t *out, size_t out_len);
 nxa_reply nxa_mark(const uint8_t *script, size_t script_len, size_t index, uint8_t *out, size_t out_len);
 

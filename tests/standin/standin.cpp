@@ -84,6 +84,18 @@ nxa_reply nxa_mirror(const uint8_t* record, size_t record_len, uint8_t* out, siz
     return lent([&](Bytes& b) { return second::mirror(taken(record, record_len), b); }, out, out_len);
 }
 
+nxa_reply nxa_product(const uint8_t* first, size_t first_len, const uint8_t* other, size_t other_len,
+                      uint8_t* out, size_t out_len)
+{
+    return lent([&](Bytes& b) { return second::product(taken(first, first_len), taken(other, other_len), b); },
+                out, out_len);
+}
+
+nxa_reply nxa_star(const uint8_t* record, size_t record_len, uint8_t* out, size_t out_len)
+{
+    return lent([&](Bytes& b) { return second::star(taken(record, record_len), b); }, out, out_len);
+}
+
 nxa_reply nxa_catalogue(size_t number, uint8_t* out, size_t out_len)
 {
     return lent([&](Bytes& b) { return second::catalogue(number, b); }, out, out_len);
