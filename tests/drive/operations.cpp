@@ -8,6 +8,9 @@ using drive::Answer;
 using drive::Bytes;
 using drive::Chance;
 using drive::Run;
+using drive::agree;
+using drive::granted;
+using drive::with_size;
 
 Answer sum(Run& run, const Bytes& first, const Bytes& other, std::size_t lent = drive::ample)
 {
@@ -32,17 +35,6 @@ Answer mirror(Run& run, const Bytes& record, std::size_t lent = drive::ample)
 Answer minimal(Run& run, const Bytes& record)
 {
     return run.one("minimal", nxa_minimal, second::minimal, record, drive::ample);
-}
-
-bool granted(const Answer& answer)
-{
-    return answer.reply.number == 0;
-}
-
-// Where both are granted, both have written the same record.
-bool agree(const Answer& one, const Answer& two)
-{
-    return !granted(one) || !granted(two) || one.written() == two.written();
 }
 
 void blank(Run& run, const Bytes& first)
@@ -177,15 +169,6 @@ void fixed_cases(Run& run)
     for (const Bytes& record : drive::boundary_records()) {
         every_size(run, record, drive::nothing(8));
         every_size(run, record, record);
-    }
-}
-
-template <typename Operation, typename... Inputs>
-void with_size(Run& run, Chance& chance, Operation operation, const Inputs&... inputs)
-{
-    const Answer answer = operation(run, inputs..., drive::ample);
-    if (chance.one_in(2)) {
-        operation(run, inputs..., generate::buffer_size(chance, answer.reply.length));
     }
 }
 

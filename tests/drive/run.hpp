@@ -113,6 +113,27 @@ private:
 // Larger than anything a service writes.
 constexpr std::size_t ample = 1100;
 
+inline bool granted(const Answer& answer)
+{
+    return answer.reply.number == 0;
+}
+
+// Where both are granted, both have written the same record.
+inline bool agree(const Answer& one, const Answer& two)
+{
+    return !granted(one) || !granted(two) || one.written() == two.written();
+}
+
+// An operation with an ample buffer, and half of the time with one more, whose size is chosen by what is needed.
+template <typename Operation, typename... Inputs>
+void with_size(Run& run, Chance& chance, Operation operation, const Inputs&... inputs)
+{
+    const Answer answer = operation(run, inputs..., ample);
+    if (chance.one_in(2)) {
+        operation(run, inputs..., generate::buffer_size(chance, answer.reply.length));
+    }
+}
+
 }  // namespace drive
 
 #endif

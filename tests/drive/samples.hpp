@@ -46,6 +46,27 @@ inline second::Bytes ones() { return record_of(1, 2, {1, 1, 0, 1}); }           
 inline second::Bytes even_paths() { return record_of(2, 1, {3, 3, 1, 2}); }              // sample 5
 inline second::Bytes seven_cycle() { return record_of(7, 1, {1, 23, 2, 4, 8, 16, 32, 64, 1}); }
 
+inline second::Bytes all_words(std::size_t letters) { return uniform(1, letters, 1); }
+inline second::Bytes empty_word(std::size_t letters) { return power(0, 0, letters); }
+
+// All words but the empty one: the first state is left with any letter, and the second stays.
+inline second::Bytes nonempty_words(std::size_t letters)
+{
+    std::vector<std::uint32_t> rows(2 + 2 * letters, 2);
+    rows[0] = 1;
+    return record_of(2, letters, rows);
+}
+
+// The words of one letter whose length leaves `left` on division by the number of states.
+inline second::Bytes lengths(std::size_t states, std::size_t left, std::size_t letter, std::size_t letters)
+{
+    second::Machine machine = generate::only_power(letter, states - 1, letters);
+    machine.rows[letter][states - 1][0] = 1;
+    machine.accepting[states - 1] = 0;
+    machine.accepting[left] = 1;
+    return second::write_record(machine);
+}
+
 // A record for each row 1 to 7 of the refusal table, and some that fit two rows at once.
 inline std::vector<second::Bytes> refused_records()
 {
