@@ -27,6 +27,7 @@ static const char *const reasons[] = {
     "the result has more than 32 states; states",
     "the buffer is too short; bytes needed",
     "there is no such number in the catalogue; number",
+    "the record accepts the empty word, so that it has no star; place",
 };
 
 static unsigned long shown(size_t number)

@@ -5,8 +5,8 @@
  * worth 2^j, stands for state j. A word is one byte per letter, the letters being 0 to a-1. A record accepts a word when the number
  * of paths along it, from a state of I to a state of F, is odd.
  *
- * In the services on two records (compare, sum and meet) a second record of 0 bytes, a blank, means the machine with no states over the
- * first one's letters, which accepts no word. A blank is never refused. A first or only record of 0 bytes is refused 1, place 0.
+ * In the services on two records (compare, sum, meet and product) a second record of 0 bytes, a blank, means the machine with no states
+ * over the first one's letters, which accepts no word. A blank is never refused. A first or only record of 0 bytes is refused 1, place 0.
  *
  * What a service is given: numbers, and slices of bytes as a pointer and a length.
  * What it gives back: an nxa_reply. Number NXA_GRANTED (0) says that it did its work. Any other number is a refusal; it comes with the
@@ -61,6 +61,7 @@ extern "C" {
 #define NXA_DIMENSION 11     /* dimension of the result over 32: the dimension; names no record */
 #define NXA_NO_ROOM 12       /* the lent buffer is too short: the bytes needed; names no record */
 #define NXA_NO_ENTRY 13      /* catalogue number over 5: the number; names no record */
+#define NXA_EMPTY_WORD 14    /* star: the record accepts the empty word: 0 */
 
 typedef struct {
     size_t number; /* NXA_GRANTED, or the refusal's number */
@@ -196,6 +197,39 @@ nxa_reply nxa_complement(const uint8_t *record, size_t record_len, uint8_t *out,
  *   nxa_reply r = nxa_mirror(bytes, count, backward, sizeof backward);
  */
 nxa_reply nxa_mirror(const uint8_t *record, size_t record_len, uint8_t *out, size_t out_len);
+
+/* Writes the minimal record of the product of two records over the same letters. A word may be cut in two at any place, before its first
+ * letter and after its last one too: it is in the product when the number of its cuts into a word that the first accepts and then a word
+ * that the second accepts is odd.
+ *
+ * Reads:    both records; a second one of 0 bytes is a blank, and the product then has no words.
+ * Writes:   the minimal record of the product, length bytes.
+ * Granted:  length is 15 + 4*a*d for a product of dimension d, value 0. It is at most the two dimensions added.
+ * Refused:  1 to 7, record 1; 1 to 7, record 2, where 1 needs 1 to 6 bytes; 8, record 2, place 6; 11, record 0, place the dimension,
+ *           33 to 64; then 12, record 0, place the bytes needed. A refusal of the first record is the whole answer. NXA_RECORD_MAX bytes
+ *           are always enough.
+ *
+ *   uint8_t out[NXA_RECORD_MAX];
+ *   nxa_reply r = nxa_product(first, first_count, second, second_count, out, sizeof out);
+ *   if (r.number == NXA_DIMENSION) printf("%lu states are too many\n", (unsigned long)r.place);
+ */
+nxa_reply nxa_product(const uint8_t *first, size_t first_len, const uint8_t *second, size_t second_len, uint8_t *out, size_t out_len);
+
+/* Writes the minimal record of the star of a record that does not accept the empty word. A word is in the star when the number of its
+ * cuts into words that the record accepts, however many, is odd; the empty word has one cut, into none. So the star of a record that
+ * accepts no word has the empty word only.
+ *
+ * Reads:    the record.
+ * Writes:   the minimal record of the star, length bytes.
+ * Granted:  length is 15 + 4*a*d for a star of dimension d, value 0.
+ * Refused:  1 to 7, record 1; 14, record 1, place 0, where the record accepts the empty word; 11, record 0, place 33, the only dimension
+ *           over 32 that there can be; then 12, record 0, place the bytes needed.
+ *
+ *   uint8_t out[NXA_RECORD_MAX];
+ *   nxa_reply r = nxa_star(bytes, count, out, sizeof out);
+ *   if (r.number == NXA_EMPTY_WORD) puts("no star: the empty word is accepted");
+ */
+nxa_reply nxa_star(const uint8_t *record, size_t record_len, uint8_t *out, size_t out_len);
 
 /* Gives out a record of the catalogue. 0 no word; 1 all words; 2 the empty word only; 3 words ending in 1; 4 language X, in which every
  * maximal run of letter 0 has a length that does not leave 2 on division by 3; all these over two letters; 5 over one letter, the

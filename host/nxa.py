@@ -27,7 +27,7 @@ import os
 from typing import List, NamedTuple, Optional, Sequence, Union
 
 __all__ = ["Refused", "Minimal", "Comparison", "RECORD_MAX", "WORD_MAX", "check", "rewrite", "test", "minimal", "compare",
-           "sum", "meet", "complement", "mirror", "catalogue", "mark", "mark_line"]
+           "sum", "meet", "complement", "mirror", "product", "star", "catalogue", "mark", "mark_line"]
 
 RECORD_MAX = 1039  # bytes of the longest record
 WORD_MAX = 63      # letters of the longest word that a comparison writes
@@ -53,6 +53,7 @@ _REASONS = {
     11: ("the result has more than 32 states", "its dimension"),
     12: ("the lent buffer is too short", "the bytes needed"),
     13: ("there is no such number in the catalogue", "the number"),
+    14: ("the record accepts the empty word, so that it has no star", "the place"),
 }
 
 
@@ -115,6 +116,8 @@ _sum = _service("nxa_sum", _SLICE, _SLICE, _LENT)
 _meet = _service("nxa_meet", _SLICE, _SLICE, _LENT)
 _complement = _service("nxa_complement", _SLICE, _LENT)
 _mirror = _service("nxa_mirror", _SLICE, _LENT)
+_product = _service("nxa_product", _SLICE, _SLICE, _LENT)
+_star = _service("nxa_star", _SLICE, _LENT)
 _catalogue = _service("nxa_catalogue", [ctypes.c_size_t], _LENT)
 _mark = _service("nxa_mark", _SLICE, [ctypes.c_size_t], _LENT)
 
@@ -204,6 +207,18 @@ def complement(record: Bytes, room: int = RECORD_MAX) -> bytes:
 def mirror(record: Bytes, room: int = RECORD_MAX) -> bytes:
     """Gives the minimal record of a record's words reversed. Refused 1 to 7, 12."""
     return _written(_mirror, _slices(_bytes(record)), room)[1]
+
+
+def product(first: Bytes, second: Bytes, room: int = RECORD_MAX) -> bytes:
+    """Gives the minimal record of the words that have an odd number of cuts into a word of the first record and then a word of the
+    second, which may be a blank. Refused 1 to 8, 11, 12."""
+    return _written(_product, _slices(_bytes(first), _bytes(second)), room)[1]
+
+
+def star(record: Bytes, room: int = RECORD_MAX) -> bytes:
+    """Gives the minimal record of the words that have an odd number of cuts into words of a record, which must not accept the empty
+    word. Refused 1 to 7, 14, 11, 12."""
+    return _written(_star, _slices(_bytes(record)), room)[1]
 
 
 def catalogue(number: int, room: int = RECORD_MAX) -> bytes:

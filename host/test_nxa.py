@@ -33,6 +33,7 @@ ONES = record(1, 2, 1, 1, 0, 1)
 ENDING_IN_1 = record(2, 2, 1, 2, 1, 1, 2, 2)
 BEGINNING_WITH_1 = record(2, 2, 1, 2, 0, 2, 2, 2)
 LENGTHS = record(3, 1, 1, 7, 2, 4, 5)
+NONEMPTY = record(2, 1, 1, 2, 2, 2)
 
 
 class Desk(unittest.TestCase):
@@ -100,6 +101,22 @@ class Samples(Desk):
         entries = (NOTHING, EVERYTHING, EMPTY_WORD, ENDING_IN_1, X, LENGTHS)
         self.assertEqual(tuple(nxa.catalogue(number) for number in range(6)), entries)
 
+    def test_product(self):
+        self.assertEqual(nxa.product(ZEROS, ONES), record(2, 2, 1, 3, 1, 0, 2, 2))
+        self.assertEqual(nxa.product(ONES, ZEROS), record(2, 2, 1, 3, 2, 2, 1, 0))
+        self.assertEqual(nxa.product(record(1, 1, 1, 1, 1), record(1, 1, 1, 1, 1)), record(2, 1, 1, 1, 2, 1))  # k + 1 cuts of k letters
+        for neutral in (nxa.product(X12, EMPTY_WORD), nxa.product(EMPTY_WORD, X12)):
+            self.assertEqual(neutral, X)
+        for none in (nxa.product(X12, NOTHING), nxa.product(NOTHING, X12)):
+            self.assertEqual(none, NOTHING)
+        self.assertEqual(nxa.product(power(0, 15, 1), power(0, 16, 1)), power(0, 31, 1))
+
+    def test_star(self):
+        self.assertEqual(nxa.star(NONEMPTY), record(2, 1, 1, 3, 2, 0))  # the empty word and 0
+        self.assertEqual(nxa.star(NOTHING), EMPTY_WORD)
+        self.assertEqual(nxa.star(record(2, 2, 1, 2, 2, 0, 0, 0)), ZEROS)
+        self.assertEqual(nxa.star(record(2, 1, 3, 3, 1, 2)), record(1, 1, 1, 1, 0))  # two paths along the empty word
+
     def test_longest_word(self):
         single = power(0, 31, 1)
         cycle = single[:-4] + struct.pack("<I", 1)
@@ -109,8 +126,8 @@ class Samples(Desk):
 class Refusals(Desk):
     """The refusal table's samples, row by row, for every service that can meet them."""
 
-    ONE = (nxa.check, nxa.rewrite, nxa.minimal, nxa.complement, nxa.mirror, lambda given: nxa.test(given, []))
-    TWO = (nxa.compare, nxa.sum, nxa.meet)
+    ONE = (nxa.check, nxa.rewrite, nxa.minimal, nxa.complement, nxa.mirror, nxa.star, lambda given: nxa.test(given, []))
+    TWO = (nxa.compare, nxa.sum, nxa.meet, nxa.product)
 
     def test_1_to_7(self):
         rows = ((1, 0, b""), (1, 6, X[:6]), (2, 2, b"NXB" + X[3:]), (3, 3, b"NXA\2" + X[4:]), (4, 5, uniform(33, 1, 0)),
@@ -135,18 +152,31 @@ class Refusals(Desk):
     def test_10_and_11_too_large(self):
         self.refused(10, 0, 72, nxa.meet, power(0, 8, 1), power(0, 7, 1))
         self.refused(11, 0, 40, nxa.sum, power(0, 20, 2), power(1, 20, 2))
+        self.refused(11, 0, 33, nxa.product, power(0, 16, 1), power(0, 16, 1))
+        self.refused(11, 0, 63, nxa.product, power(0, 31, 8), power(7, 31, 8), room=0)
+        cycle = power(0, 31, 1)[:-4] + struct.pack("<I", 1)
+        self.refused(11, 0, 64, nxa.product, cycle, cycle)
+        self.refused(11, 0, 33, nxa.star, cycle)
+        self.refused(11, 0, 33, nxa.star, cycle, room=0)
 
     def test_13_no_entry(self):
         for number in (6, 255, 2 ** 32, nxa._SIZE_MAX):
             self.refused(13, 0, number, nxa.catalogue, number)
             self.refused(13, 0, number, nxa.catalogue, number, room=0)
 
+    def test_14_the_empty_word(self):
+        for accepting in (X12, X, EVERYTHING, EMPTY_WORD, uniform(31, 8, 2 ** 31 - 1), power(7, 0, 8)):
+            self.refused(14, 1, 0, nxa.star, accepting)
+            self.refused(14, 1, 0, nxa.star, accepting, room=0)
+
     def test_in_words(self):
         self.assertEqual(str(self.refused(9, 1, 1, nxa.test, X, [0, 2])),
                          "refused (9, record 1): the word has a letter outside the alphabet; the index of the first: 1")
         self.assertEqual(str(self.refused(13, 0, 6, nxa.catalogue, 6)),
                          "refused (13): there is no such number in the catalogue; the number: 6")
-        self.assertEqual(sorted(nxa._REASONS), list(range(1, 14)))
+        self.assertEqual(str(self.refused(14, 1, 0, nxa.star, X)),
+                         "refused (14, record 1): the record accepts the empty word, so that it has no star; the place: 0")
+        self.assertEqual(sorted(nxa._REASONS), list(range(1, 15)))
         self.assertIn("unknown", str(nxa.Refused(99, 0, 0)))
 
 
@@ -158,7 +188,7 @@ class Blanks(Desk):
             nothing = record(0, letters, 0, 0)
             for first in (nothing, uniform(1, letters, 1), uniform(32, letters, 0xFFFFFFFF), power(letters - 1, 31, letters)):
                 for blank in (b"", bytearray(), memoryview(b"")):
-                    for service in (nxa.compare, nxa.sum, nxa.meet):
+                    for service in (nxa.compare, nxa.sum, nxa.meet, nxa.product):
                         self.assertEqual(service(first, blank), service(first, nothing))
 
     def test_words(self):
@@ -167,9 +197,10 @@ class Blanks(Desk):
         self.assertEqual(nxa.compare(power(7, 31, 8), b""), nxa.Comparison(False, b"\7" * 31, 1))
         self.assertEqual(nxa.sum(X12, b""), X)
         self.assertEqual(nxa.meet(X12, b""), NOTHING)
+        self.assertEqual(nxa.product(X12, b""), NOTHING)
 
     def test_first_is_none(self):
-        for service in (nxa.compare, nxa.sum, nxa.meet):
+        for service in (nxa.compare, nxa.sum, nxa.meet, nxa.product):
             self.refused(1, 1, 0, service, b"", b"")
             self.refused(1, 1, 0, service, b"", X)
 
@@ -193,6 +224,10 @@ class Rooms(Desk):
         self.rooms(nxa.meet, X12, b"", needed=15)
         self.rooms(nxa.complement, X, needed=39)
         self.rooms(nxa.mirror, X, needed=31)
+        self.rooms(nxa.product, X, EVERYTHING, needed=39)
+        self.rooms(nxa.product, X12, b"", needed=15)
+        self.rooms(nxa.star, NONEMPTY, needed=23)
+        self.rooms(nxa.star, ENDING_IN_1, needed=31)
         self.rooms(nxa.catalogue, 4, needed=31)
 
     def test_12_words(self):
@@ -207,7 +242,7 @@ class Rooms(Desk):
         full = power(7, 31, 8)
         self.assertEqual(len(full), nxa.RECORD_MAX)
         for service in (nxa.rewrite, nxa.mirror, lambda given: nxa.sum(given, record(0, 8, 0, 0)),
-                        lambda given: nxa.minimal(given).record):
+                        lambda given: nxa.product(given, power(0, 0, 8)), lambda given: nxa.minimal(given).record):
             self.assertEqual(service(full), full)
 
 
@@ -218,6 +253,8 @@ class Arguments(Desk):
         for wrong in (None, 5, "NXA", [78, 88, 65]):
             self.assertRaises(TypeError, nxa.check, wrong)
             self.assertRaises(TypeError, nxa.compare, X, wrong)
+            self.assertRaises(TypeError, nxa.product, wrong, X)
+            self.assertRaises(TypeError, nxa.star, wrong)
 
     def test_no_letters(self):
         for wrong in (None, 5, "00"):

@@ -60,6 +60,7 @@ void product_refusals()
     Bytes out(2000, untouched), none, shorter(142, 7);
     expect(is_refusal(second::product(power(0, 16, 1), power(0, 16, 1), out), 11, 0, 33), "only 0^16, then only 0^16");
     expect(is_refusal(second::product(power(0, 31, 1), power(0, 31, 1), out), 11, 0, 63), "only 0^31, then only 0^31");
+    expect(is_refusal(second::product(lengths(32, 31), lengths(32, 1), out), 11, 0, 64), "the largest dimension of a product");
     expect(is_refusal(second::product(power(0, 16, 1), power(0, 16, 1), none), 11, 0, 33), "row 11 before 12 of a product");
     expect(is_refusal(second::product(power(0, 31, 1), power(0, 31, 2), none), 8, 2, 6), "row 8 before 11 of a product");
     expect(is_refusal(second::product(power(0, 15, 1), power(0, 16, 1), shorter), 12, 0, 143), "row 12 of a product");
