@@ -14,8 +14,9 @@ using drive::Run;
 using drive::Word;
 using second::Machine;
 
-constexpr std::size_t services = 11;
+constexpr std::size_t services = 13;
 constexpr std::size_t ample_line = 120;
+constexpr std::size_t short_word = 11;
 
 // The fuzzer's bytes, one after another; zeros when they are used up.
 class Source {
@@ -146,7 +147,7 @@ Word any_word(Source& source, const Bytes& record)
 {
     const std::size_t letters = record.size() > 6 ? record[6] : 0;
     const bool own = letters > 0 && source.below(8) != 0;
-    Word word = source.bytes(source.below(4) == 0 ? source.two_bytes() % 2048 : source.below(services));
+    Word word = source.bytes(source.below(4) == 0 ? source.two_bytes() % 2048 : source.below(short_word));
     for (std::uint8_t& letter : word) {
         letter = own ? static_cast<std::uint8_t>(letter % letters) : letter;
     }
@@ -250,6 +251,8 @@ extern "C" int LLVMFuzzerTestOneInput(const std::uint8_t* bytes, std::size_t siz
     case 8: one(source, "mirror", nxa_mirror, second::mirror); break;
     case 9: catalogue(source); break;
     case 10: mark(source); break;
+    case 11: two(source, "product", nxa_product, second::product); break;
+    case 12: one(source, "star", nxa_star, second::star); break;
     }
     return 0;
 }

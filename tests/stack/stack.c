@@ -23,7 +23,7 @@ typedef struct {
     size_t number;                   /* of the catalogue's entry, or of the record in a script */
 } request;
 
-static record dense, sparse, cycle, single, other_single, two_states, wide_two, full, nothing, cut_short, stray, blank;
+static record dense, sparse, lacking, cycle, single, other_single, two_states, wide_two, full, nothing, cut_short, stray, blank;
 static uint8_t word[WORD_LENGTH];
 static uint8_t script[SCRIPT_MAX];
 
@@ -74,6 +74,8 @@ static void make_inputs(void)
     size_t i;
     dense = scattered(0);
     sparse = scattered(1);
+    lacking = dense;
+    memcpy(lacking.bytes + 7, "\1\0\0\0\2", 5);   /* state 0 alone is initial, and not final: no empty word, and so a star */
     single = power_of(7, 31, 8);
     other_single = power_of(0, 31, 8);
     cycle = changed(single, NXA_RECORD_MAX - 4, 1);   /* the last state leads back to the first: 63 letters to tell it from the word */
@@ -120,9 +122,11 @@ ONE(rewrite)
 ONE(minimal)
 ONE(complement)
 ONE(mirror)
+ONE(star)
 TWO(compare)
 TWO(sum)
 TWO(meet)
+TWO(product)
 
 static nxa_reply call_catalogue(const request *r, uint8_t *out)
 {
@@ -152,13 +156,15 @@ static const service services[] = {
     {"meet", call_meet, PAIRS},
     {"complement", call_complement, RECORDS},
     {"mirror", call_mirror, RECORDS},
+    {"product", call_product, PAIRS},
+    {"star", call_star, RECORDS},
     {"catalogue", call_catalogue, NUMBERS},
     {"mark", call_mark, SCRIPTS},
 };
 
 /* ---- the requests of a service */
 
-#define REQUESTS_MAX 144
+#define REQUESTS_MAX 169
 
 typedef struct {
     request each[REQUESTS_MAX];
@@ -177,8 +183,8 @@ static void ask(requests *all, const uint8_t *first, size_t first_len, const uin
 
 static void ask_records(requests *all, inputs of)
 {
-    const record *const records[] = {&dense,    &sparse, &cycle,   &single,    &other_single, &two_states,
-                                     &wide_two, &full,   &nothing, &cut_short, &stray,        &blank};
+    const record *const records[] = {&dense,    &sparse, &lacking, &cycle,     &single, &other_single, &two_states,
+                                     &wide_two, &full,   &nothing, &cut_short, &stray,  &blank};
     const size_t count = sizeof records / sizeof records[0];
     size_t i, j;
     for (i = 0; i < count; i++) {

@@ -35,9 +35,11 @@ static const service services[] = {
     {"minimal", ONE, nxa_minimal, NULL},
     {"complement", ONE, nxa_complement, NULL},
     {"mirror", ONE, nxa_mirror, NULL},
+    {"star", ONE, nxa_star, NULL},
     {"compare", TWO, NULL, nxa_compare},
     {"sum", TWO, NULL, nxa_sum},
     {"meet", TWO, NULL, nxa_meet},
+    {"product", TWO, NULL, nxa_product},
     {"catalogue", CATALOGUE, NULL, NULL},
     {"mark", MARK, NULL, NULL},
 };
