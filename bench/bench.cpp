@@ -4,6 +4,7 @@
 #include "baseline.cpp"
 #include "tuned.hpp"
 #include "machines.hpp"
+#include "timing.hpp"
 extern "C" {
 #include "nxa.h"
 }
@@ -14,42 +15,11 @@ extern "C" {
 #include <deque>
 #include <functional>
 #include <string>
-#include <time.h>
 #include <vector>
 
 struct Pair { Bytes first, second; };
 
-// So many inputs of a family that no branch predictor knows them by heart: with 128 small ones it does, in some runs, for some programs.
-static const int INPUTS = 512;
-
-// How often the benchmark goes through all families.
-static const int PASSES = 16;
-
 // ---- times
-
-static double seconds() {
-    timespec t;
-    clock_gettime(CLOCK_THREAD_CPUTIME_ID, &t);
-    return t.tv_sec + t.tv_nsec * 1e-9;
-}
-
-static volatile size_t sink;
-
-// The fastest of many slices of work, in microseconds for one call.
-struct Timer {
-    size_t rounds = 1;
-    double best = 1e9;
-
-    template <class F> double slice(size_t inputs, F call) {
-        double from = seconds();
-        for (size_t r = 0; r < rounds; r++)
-            for (size_t i = 0; i < inputs; i++) call(i);
-        double took = seconds() - from;
-        if (took < 50e-6) rounds *= 2;
-        else best = std::min(best, took / (rounds * inputs) * 1e6);
-        return took;
-    }
-};
 
 // A family: its name, a turn of the three programs, which is a slice of each, and how many seconds of each it is given.
 struct Family {
@@ -160,8 +130,6 @@ static void agree(int cases) {
 }
 
 // ---- families
-
-static std::string size_of(int n, int a) { return " n=" + std::to_string(n) + " a=" + std::to_string(a); }
 
 static void time_dense(int n, int a, double budget) {
     std::vector<Bytes> in;

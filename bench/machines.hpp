@@ -1,4 +1,5 @@
-// The machines that the benchmarks run on: random dense ones, sparse and deterministic ones, the same language in another basis. Needs the yardstick's Machine.
+// The machines that the benchmarks run on: random dense ones, sparse and deterministic ones, the same language in another basis. Needs the yardstick's Machine,
+// or one like it.
 #ifndef MACHINES_HPP
 #define MACHINES_HPP
 

@@ -1,0 +1,126 @@
+// Times product and star beside the sum of operands of the same sizes, in one run, from record bytes to answer bytes. Build: see README.md in
+// this folder. Needs no yardstick: nothing but the archive is timed.
+#include <algorithm>
+#include <cstdint>
+#include <cstdio>
+#include <cstdlib>
+#include <string>
+#include <vector>
+typedef uint64_t u64;
+typedef uint8_t u8;
+
+// What machines.hpp works on, as the yardstick has it.
+struct Machine {
+    int n = 0, a = 1;
+    u64 I = 0, F = 0;
+    u64 T[8][64];
+};
+
+static u8* put_row(u8* at, u64 row) {
+    for (int k = 0; k < 4; k++) *at++ = (u8)(row >> 8 * k);
+    return at;
+}
+
+static size_t write_record(const Machine& m, u8* out) {
+    const u8 head[7] = {0x4E, 0x58, 0x41, 1, 0, (u8)m.n, (u8)m.a};
+    u8* at = put_row(put_row(std::copy(head, head + 7, out), m.I), m.F);
+    for (int l = 0; l < m.a; l++)
+        for (int i = 0; i < m.n; i++) at = put_row(at, m.T[l][i]);
+    return (size_t)(at - out);
+}
+
+#include "machines.hpp"
+#include "timing.hpp"
+extern "C" {
+#include "nxa.h"
+}
+
+static u8 out[NXA_RECORD_MAX];
+
+// An input of a family: the operands of the sum. The product has the same two, the star the first.
+struct Operands { Bytes first, second; };
+
+static nxa_reply product(const Operands& in) {
+    return nxa_product(in.first.data(), in.first.size(), in.second.data(), in.second.size(), out, sizeof out);
+}
+static nxa_reply star(const Operands& in) {
+    return nxa_star(in.first.data(), in.first.size(), out, sizeof out);
+}
+static nxa_reply sum(const Operands& in) {
+    return nxa_sum(in.first.data(), in.first.size(), in.second.data(), in.second.size(), out, sizeof out);
+}
+
+struct Family {
+    std::string name;
+    nxa_reply (*operation)(const Operands&);
+    std::vector<Operands> in;
+    Timer own = {}, beside = {};
+
+    double ratio() const { return own.best / beside.best; }
+
+    // A slice of each.
+    double turn() {
+        return own.slice(in.size(), [&](size_t i) { sink = operation(in[i]).length; }) + beside.slice(in.size(), [&](size_t i) { sink = sum(in[i]).length; });
+    }
+};
+static std::vector<Family> families;
+
+// Both do all their work: what may be refused is the dimension alone, which is known when all the rest is done.
+static void add_family(const std::string& name, nxa_reply (*operation)(const Operands&), std::vector<Operands> in) {
+    for (const Operands& each : in)
+        for (size_t number : {operation(each).number, sum(each).number})
+            if (number != NXA_GRANTED && number != NXA_DIMENSION) {
+                std::printf("%s: refused (%lu)\n", name.c_str(), (unsigned long)number);
+                std::exit(1);
+            }
+    families.push_back({name, operation, std::move(in)});
+}
+
+// No state is final that a path begins in, but for an even number.
+static Machine without_empty_word(Machine m) {
+    u64 common = m.I & m.F;
+    if (__builtin_parityll(common)) m.F ^= common & -common;
+    return m;
+}
+
+static void time_product(int n, int a) {
+    std::vector<Operands> random, single;
+    for (int i = 0; i < INPUTS; i++) {
+        random.push_back({record_of(dense(n, a)), record_of(dense(n, a))});
+        single.push_back({record_of(deterministic(n, a)), record_of(deterministic(n, a))});
+    }
+    add_family("product random dense" + size_of(n, a), product, random);
+    add_family("product deterministic" + size_of(n, a), product, single);
+}
+
+static void time_star(int n, int a) {
+    std::vector<Operands> random;
+    for (int i = 0; i < INPUTS; i++) random.push_back({record_of(without_empty_word(dense(n, a))), record_of(dense(1, a))});
+    add_family("star random dense" + size_of(n, a), star, random);
+}
+
+// All families, one after another, in many passes, and the slices of the two services by turns: others on the machine slow it for seconds at a time.
+static void time_families(double budget) {
+    for (int pass = 0; pass < PASSES; pass++)
+        for (Family& f : families) {
+            double spent = 0;
+            for (int turn = 0; spent < 2 * budget / PASSES || turn < 4; turn++) spent += f.turn();
+        }
+}
+
+static void print_families() {
+    std::printf("%-42s %8s %8s   %6s\n", "microseconds for one call", "own", "sum", "ratio");
+    for (const Family& f : families) std::printf("%-42s %8.3f %8.3f   %6.2f\n", f.name.c_str(), f.own.best, f.beside.best, f.ratio());
+    const Family& worst = *std::max_element(families.begin(), families.end(), [](const Family& f, const Family& g) { return f.ratio() < g.ratio(); });
+    std::printf("worst to the sum: %.2f, %s\n", worst.ratio(), worst.name.c_str());
+}
+
+int main(int argc, char** argv) {
+    double budget = argc > 1 ? std::atof(argv[1]) : 0.25;
+    for (int n : {2, 4, 8, 16, 32})
+        for (int a : {1, 2, 8}) time_product(n, a);
+    for (int n : {2, 4, 8, 16, 31, 32})
+        for (int a : {1, 2, 8}) time_star(n, a);
+    time_families(budget);
+    print_families();
+}
