@@ -108,37 +108,53 @@ void laws_of_three(Run& run, const Bytes& a, const Bytes& b, const Bytes& c)
 
 // ---- fixed cases
 
-void every_size(Run& run, const Bytes& first, const Bytes& other)
+void product_sizes(Run& run, const Bytes& first, const Bytes& other)
 {
     run.two_sizes("product", nxa_product, second::product, first, other);
-    run.one_sizes("star", nxa_star, second::star, first);
 }
 
-// Row 11: products of 0^i and 0^j have i + j + 1 states; the star of lengths that leave k on division by n has n + 1.
-void limits(Run& run)
+void star_sizes(Run& run, const Bytes& record)
+{
+    run.one_sizes("star", nxa_star, second::star, record);
+}
+
+// Row 11: the product of only 0^i and only 0^j has i + j + 1 states, that of two cycles of 32 has 64.
+void product_limits(Run& run)
 {
     for (std::size_t one = 0; one < 32; ++one) {
         for (std::size_t two = 0; two < 32; ++two) {
-            for (std::size_t size : {0, 142, 143, 1039}) {
+            for (std::size_t size : {0, 143, 1039}) {
                 product(run, drive::power(0, one, 1), drive::power(0, two, 1), size);
-                product(run, drive::power(0, one, 2), drive::power(1, two, 2), size);
             }
+            product(run, drive::power(0, one, 2), drive::power(1, two, 2));
         }
-        laws_of_one(run, drive::power(one % 8, one, 8));
-        every_size(run, drive::power(7, one, 8), drive::power(7, 31 - one, 8));
-        if (one > 0) {
-            every_size(run, drive::power(0, one, 8), drive::power(7, 32 - one, 8));
-        }
+        laws_of_one(run, drive::power(0, one, 1));
+        product(run, drive::power(7, one, 8), drive::power(0, 31 - one, 8));
     }
+    for (std::size_t length = 1; length < 32; length += 15) {
+        product_sizes(run, drive::power(7, length, 8), drive::power(7, 31 - length, 8));
+        product_sizes(run, drive::power(7, length, 8), drive::power(7, 32 - length, 8));
+    }
+    product_sizes(run, drive::power(0, 15, 1), drive::power(0, 16, 1));
+    product_sizes(run, drive::power(0, 16, 1), drive::power(0, 16, 1));
+    product_sizes(run, drive::power(0, 31, 8), drive::power(7, 31, 8));
+    product_sizes(run, drive::lengths(32, 31, 0, 1), drive::lengths(32, 1, 0, 1));
+}
+
+// Row 14 where the lengths leave 0 on division by n; else the star has n + 1 states, and row 11 comes with n = 32.
+void star_limits(Run& run)
+{
     for (std::size_t states = 1; states <= 32; ++states) {
         for (std::size_t left = 0; left < states; ++left) {
-            run.one_sizes("star", nxa_star, second::star, drive::lengths(states, left, 0, 1));
+            star(run, drive::lengths(states, left, 0, 1));
+            star(run, drive::lengths(states, left, 0, 1), 0);
         }
-        laws_of_one(run, drive::lengths(states, states - 1, 7, 8));
+        laws_of_one(run, drive::lengths(states, states - 1, 0, 1));
+        star_sizes(run, drive::lengths(states, states - 1, 7, 8));
+        star_sizes(run, drive::power(7, states - 1, 8));
     }
-    every_size(run, drive::power(0, 15, 1), drive::power(0, 16, 1));
-    every_size(run, drive::power(0, 16, 1), drive::power(0, 16, 1));
-    every_size(run, drive::power(0, 31, 8), drive::power(7, 31, 8));
+    laws_of_one(run, drive::lengths(31, 30, 7, 8));
+    laws_of_one(run, drive::power(7, 31, 8));
 }
 
 // A second record of 0 bytes, refused first records before the others; a first one is refused whatever the second is.
@@ -159,8 +175,9 @@ void refusals(Run& run)
     records.push_back(drive::lengths(32, 31, 0, 1));
     records.push_back(drive::lengths(32, 0, 0, 1));
     for (const Bytes& first : records) {
+        star_sizes(run, first);
         for (const Bytes& other : records) {
-            every_size(run, first, other);
+            product_sizes(run, first, other);
         }
     }
 }
@@ -177,8 +194,9 @@ void samples(Run& run)
     }
     for (const Bytes& first : records) {
         laws_of_one(run, first);
+        star_sizes(run, first);
         for (const Bytes& other : records) {
-            every_size(run, first, other);
+            product_sizes(run, first, other);
             if (first[6] == other[6]) {
                 laws_of_two(run, first, other);
                 laws_of_three(run, first, other, drive::nonempty_words(first[6]));
@@ -191,11 +209,13 @@ void fixed_cases(Run& run)
 {
     blanks(run);
     samples(run);
-    limits(run);
+    product_limits(run);
+    star_limits(run);
     refusals(run);
     for (const Bytes& record : drive::boundary_records()) {
-        every_size(run, record, drive::nothing(8));
-        every_size(run, record, record);
+        star_sizes(run, record);
+        product_sizes(run, record, drive::nothing(8));
+        product_sizes(run, record, record);
     }
     for (const Bytes& first : drive::smallest_records()) {
         star(run, first);
