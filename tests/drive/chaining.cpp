@@ -49,11 +49,9 @@ void laws_of_star(Run& run, const Bytes& record, const Bytes& repeated)
     run.law(alike(mirror(run, repeated), star(run, mirror(run, record).written())), "mirror of a star", inputs);
     const Answer after = product(run, record, repeated), before = product(run, repeated, record);
     run.law(alike(after, before), "AS is SA", inputs);
-    if (granted(after)) {
-        run.law(sum(run, unit, after.written()).written() == repeated, "S is the empty word and AS", inputs);
-    } else {
-        run.law(after.reply.number == 11 && after.reply.place == 33, "AS is S but for the empty word", inputs);
-    }
+    // Every quotient of AS is an xor of products of quotients of A with S, so AS needs no more states than A.
+    run.law(granted(after) && after.written()[5] <= record[5], "AS in the states of A", inputs);
+    run.law(sum(run, unit, after.written()).written() == repeated, "S is the empty word and AS", inputs);
     const Answer with_unit = sum(run, unit, record);
     if (granted(with_unit)) {
         run.law(product(run, with_unit.written(), repeated).written() == unit, "S undoes the empty word and A", inputs);
