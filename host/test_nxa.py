@@ -168,6 +168,8 @@ class Refusals(Desk):
         for accepting in (X12, X, EVERYTHING, EMPTY_WORD, uniform(31, 8, 2 ** 31 - 1), power(7, 0, 8)):
             self.refused(14, 1, 0, nxa.star, accepting)
             self.refused(14, 1, 0, nxa.star, accepting, room=0)
+        self.refused(7, 1, 15, nxa.star, record(1, 1, 1, 1, 2))
+        self.refused(7, 1, 11, nxa.star, record(1, 1, 1, 3, 1))
 
     def test_in_words(self):
         self.assertEqual(str(self.refused(9, 1, 1, nxa.test, X, [0, 2])),

@@ -140,6 +140,7 @@ static void limits(void)
     refuses(product, "a = 2 and a = 1", power_of(0, 31, 2), power(31), refused(NXA_UNLIKE_LETTERS, 2, 6));
     refuses(star, "lengths 31 mod 32", cycle, none, refused(NXA_DIMENSION, 0, 33));
     refuses(star, "lengths 31 and 0 mod 32", changed(cycle, 11, 1), none, refused(NXA_EMPTY_WORD, 1, 0));
+    refuses(star, "only 0^31 and the empty word", changed(power(31), 11, 1), none, refused(NXA_EMPTY_WORD, 1, 0));
     refuses(star, "X", x12(), none, refused(NXA_EMPTY_WORD, 1, 0));
     refuses(star, "only the empty word", power_of(0, 0, 8), none, refused(NXA_EMPTY_WORD, 1, 0));
 }
@@ -169,6 +170,8 @@ static void refusals(void)
         refuses(singles[i], "mark 4E 58 42", mark, good, refused(NXA_WRONG_MARK, 1, 2));
         refuses(singles[i], "stray bit", stray, good, refused(NXA_STRAY_BIT, 1, 7));
     }
+    refuses(star, "stray bit, and the empty word", changed(power(0), 15, 2), good, refused(NXA_STRAY_BIT, 1, 15));
+    refuses(star, "length, and the empty word", cut(power(0), 20), good, refused(NXA_WRONG_LENGTH, 1, 19));
 }
 
 void test_operations(void)

@@ -139,9 +139,13 @@ void product_limits(Run& run)
     product_sizes(run, drive::lengths(32, 31, 0, 1), drive::lengths(32, 1, 0, 1));
 }
 
-// Row 14 where the lengths leave 0 on division by n; else the star has n + 1 states, and row 11 comes with n = 32.
+// Row 14, after rows 1 to 7 and before 11. The lengths that leave 0 on division by n have the empty word; the others have a star of n + 1
+// states, and so row 11 with n = 32.
 void star_limits(Run& run)
 {
+    for (const Bytes& record : drive::records_with_empty_word()) {
+        star_sizes(run, record);
+    }
     for (std::size_t states = 1; states <= 32; ++states) {
         for (std::size_t left = 0; left < states; ++left) {
             star(run, drive::lengths(states, left, 0, 1));

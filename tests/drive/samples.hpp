@@ -82,6 +82,16 @@ inline std::vector<second::Bytes> refused_records()
             record_of(0, 1, {1, 0}), record_of(0, 1, {0, 0x80000000u}), record_of(31, 1, {0, 0x80000000u})};
 }
 
+// For row 14, records of which an odd number of states is initial and final: first three that rows 6 and 7 refuse, then well-formed ones.
+inline std::vector<second::Bytes> records_with_empty_word()
+{
+    second::Bytes longer = all_words(1), word_too = power(0, 31, 1), cycle_too = lengths(32, 31, 0, 1);
+    longer.push_back(0);
+    word_too[11] = cycle_too[11] = 1;
+    return {longer, record_of(1, 1, {1, 3, 1}), record_of(1, 1, {1, 1, 2}), word_too, cycle_too, empty_word(8), all_words(8),
+            uniform(31, 8, 0x7FFFFFFFu)};
+}
+
 // Both ends of n and a.
 inline std::vector<second::Bytes> boundary_records()
 {

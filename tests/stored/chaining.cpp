@@ -67,9 +67,12 @@ void blanks(Book& book)
     book.two(product.name, product.expected, Bytes{}, Bytes{});
 }
 
-// Row 11 on both sides of its limit, before row 12, and row 14 before both.
+// Row 11 on both sides of its limit, before row 12, and row 14 before both and after rows 1 to 7.
 void limits(Book& book)
 {
+    for (const Bytes& record : drive::records_with_empty_word()) {
+        one_sizes(book, star, record);
+    }
     for (std::size_t one : {0, 1, 15, 16, 30, 31}) {
         for (std::size_t two : {0, 1, 15, 16, 31}) {
             two_sizes(book, product, drive::power(0, one, 1), drive::power(0, two, 1));
