@@ -204,7 +204,7 @@ nxa_reply nxa_mirror(const uint8_t *record, size_t record_len, uint8_t *out, siz
  *
  * Reads:    both records; a second one of 0 bytes is a blank, and the product then has no words.
  * Writes:   the minimal record of the product, length bytes.
- * Granted:  length is 15 + 4*a*d for a product of dimension d, value 0. It is at most the two dimensions added.
+ * Granted:  length is 15 + 4*a*d for a product of dimension d, which is at most the two dimensions added; value 0.
  * Refused:  1 to 7, record 1; 1 to 7, record 2, where 1 needs 1 to 6 bytes; 8, record 2, place 6; 11, record 0, place the dimension,
  *           33 to 64; then 12, record 0, place the bytes needed. A refusal of the first record is the whole answer. NXA_RECORD_MAX bytes
  *           are always enough.
