@@ -1,4 +1,5 @@
-// The starred samples through the services: each function asks a service for a sample, and promises what the sample says.
+// The starred samples and the case of the star through the services: each function asks a service for a sample, and promises what the
+// sample says.
 ghost use mathlib.Core.Path.{_≡_};
 ghost use mathlib.Core.List.{[], _∷_};
 ghost use Prim.Native.Nat.{_<_, _≤_};
@@ -8,7 +9,7 @@ ghost use Rattle.record.specs.Outcome.{fit, bufferOf};
 ghost use Rattle.testing.specs.Testing.{testOf};
 ghost use Rattle.catalogue.specs.Words.{languageX};
 ghost use Rattle.catalogue.specs.Entries.{recordOf};
-ghost use Rattle.samples.specs.Table.{x12, x, noStates, oneState, twoPaths, starSum, firstOne};
+ghost use Rattle.samples.specs.Table.{x12, x, noStates, oneState, twoPaths, starSum, firstOne, nonempty, emptyOrZero};
 ghost use Rattle.samples.specs.Answers.{verdict, Wrote, WroteMinimal};
 use compare::Compared;
 use compare::Side;
@@ -45,6 +46,10 @@ const CYCLE: [u8; 43] =
 // The words that end in 1, over two letters.
 const ENDING: [u8; 31] =
     *b"NXA\x01\x00\x02\x02\x01\x00\x00\x00\x02\x00\x00\x00\x01\x00\x00\x00\x01\x00\x00\x00\x02\x00\x00\x00\x02\x00\x00\x00";
+
+// All nonempty words over one letter.
+const NONEMPTY: [u8; 23] =
+    *b"NXA\x01\x00\x02\x01\x01\x00\x00\x00\x02\x00\x00\x00\x02\x00\x00\x00\x02\x00\x00\x00";
 
 // 1. The words of X, of any length.
 pub fn test_x(word: &[u8]) -> Tested
@@ -123,4 +128,17 @@ pub fn mirror_of_ending(out: &mut [u8]) -> Written
     ensures { λ r. ⌜ Wrote firstOne (now (out .entry)) r (now (out .exit)) ⌝ }
 {
     operations::mirror(&ENDING, out)
+}
+
+// 02, Note 2. All nonempty words over one letter, dimension 2, have as star the empty word and 0, dimension 2.
+pub fn minimal_of_nonempty(out: &mut [u8]) -> Minimised
+    ensures { λ r. ⌜ WroteMinimal nonempty 2 (now (out .entry)) r (now (out .exit)) ⌝ }
+{
+    minimal::minimal(&NONEMPTY, out)
+}
+
+pub fn star_of_nonempty(out: &mut [u8]) -> Written
+    ensures { λ r. ⌜ Wrote emptyOrZero (now (out .entry)) r (now (out .exit)) ⌝ }
+{
+    star::star(&NONEMPTY, out)
 }

@@ -39,6 +39,16 @@ pub fn meet(name: &[u8], first: &[u8], second: &[u8]) {
     show::written(intersection::meet(first, second, &mut out));
 }
 
+pub fn product(name: &[u8], first: &[u8], second: &[u8], out: &mut [u8]) {
+    say(name);
+    show::written(concatenation::product(first, second, out));
+}
+
+pub fn star(name: &[u8], bytes: &[u8], out: &mut [u8]) {
+    say(name);
+    show::written(star::star(bytes, out));
+}
+
 pub fn complement(name: &[u8], bytes: &[u8]) {
     let mut out = [0u8; 1039];
     say(name);

@@ -1,4 +1,5 @@
-// Runs the samples without a star, the sample of each row of the refusal table, and blanks through the services: a line for each.
+// Runs the samples without a star, the sample of each row of the refusal table, blanks, and products and stars (02: Note 2) through the
+// services: a line for each.
 // What must come out is in the file `stdout`, as the scope has it.
 mod ask;
 mod make;
@@ -15,6 +16,21 @@ const X: [u8; 31] =
 const NOTHING: [u8; 15] = *b"NXA\x01\x00\x00\x01\x00\x00\x00\x00\x00\x00\x00\x00";
 
 const NOTHING_OF_TWO: [u8; 15] = *b"NXA\x01\x00\x00\x02\x00\x00\x00\x00\x00\x00\x00\x00";
+
+// Over one letter: every word, the words of an even number of letters, all nonempty words, the empty word only.
+const ALL: [u8; 19] = *b"NXA\x01\x00\x01\x01\x01\x00\x00\x00\x01\x00\x00\x00\x01\x00\x00\x00";
+
+const EVEN: [u8; 23] =
+    *b"NXA\x01\x00\x02\x01\x01\x00\x00\x00\x01\x00\x00\x00\x02\x00\x00\x00\x01\x00\x00\x00";
+
+const NONEMPTY: [u8; 23] =
+    *b"NXA\x01\x00\x02\x01\x01\x00\x00\x00\x02\x00\x00\x00\x02\x00\x00\x00\x02\x00\x00\x00";
+
+const EMPTY: [u8; 19] = *b"NXA\x01\x00\x01\x01\x01\x00\x00\x00\x01\x00\x00\x00\x00\x00\x00\x00";
+
+// The empty word only, over two letters.
+const EMPTY_OF_TWO: [u8; 23] =
+    *b"NXA\x01\x00\x01\x02\x01\x00\x00\x00\x01\x00\x00\x00\x00\x00\x00\x00\x00\x00\x00\x00";
 
 // 9. Only 0^31, one letter: dimension 32, against nothing the word has 31 letters; its complement is refused 11, place 33.
 fn sample_9() {
@@ -116,11 +132,12 @@ fn row_11() {
     ask::sum(b"row 11: ", &zeros, &ones);
 }
 
-// Row 12: 30 bytes for a 31-byte record. Row 13: number 6.
-fn rows_12_and_13() {
+// Row 12: 30 bytes for a 31-byte record. Row 13: number 6. Row 14: the star of every word.
+fn rows_12_to_14() {
     let mut out = [0u8; 30];
     ask::minimal(b"row 12: ", &X, &mut out);
     ask::catalogue(b"row 13: ", 6);
+    ask::star(b"row 14: ", &ALL, &mut out);
 }
 
 // A blank against X, against no word, and against only 0^31 over one letter; the sum with a blank, and the meet.
@@ -134,6 +151,49 @@ fn blanks() {
     ask::meet(b"blank: meet with only 0^31 ", &only, b"");
 }
 
+// The product with every word, where a word of k letters has k + 1 cuts; with the empty word only, the language itself; with no word, nothing.
+fn products() {
+    let mut two = [0u8; 23];
+    let mut own = [0u8; 31];
+    let mut none = [0u8; 15];
+    ask::product(b"product: all words twice ", &ALL, &ALL, &mut two);
+    ask::compare(b"product: against even lengths ", &two, &EVEN);
+    ask::product(b"product: X, empty word ", &X, &EMPTY_OF_TWO, &mut own);
+    ask::compare(b"product: against X ", &own, &X);
+    ask::product(b"product: X, nothing ", &X, &NOTHING_OF_TWO, &mut none);
+    ask::product(b"product: X, blank ", &X, b"", &mut none);
+}
+
+// Only 0^15 and then only 0^16 is only 0^31 and passes; only 0^16 twice has dimension 33.
+fn products_of_powers() {
+    let mut fifteen = [0u8; 79];
+    let mut sixteen = [0u8; 83];
+    let mut all = [0u8; 143];
+    let mut out = [0u8; 143];
+    power(&mut fifteen, 1, 15, 15);
+    power(&mut sixteen, 1, 16, 15);
+    power(&mut all, 1, 31, 15);
+    ask::product(b"product: 0^15, 0^16 ", &fifteen, &sixteen, &mut out);
+    ask::compare(b"product: against 0^31 ", &out, &all);
+    ask::product(b"product: 0^16 twice ", &sixteen, &sixteen, &mut out);
+}
+
+// The star of no word, the empty word only; of all nonempty words; of the lengths that leave 31 on division by 32, which has dimension 33.
+fn stars() {
+    let mut one = [0u8; 19];
+    let mut two = [0u8; 23];
+    let mut cycle = [0u8; 143];
+    let mut out = [0u8; 143];
+    ask::star(b"star: nothing ", &NOTHING, &mut one);
+    ask::compare(b"star: against the empty word ", &one, &EMPTY);
+    ask::star(b"star: nonempty words ", &NONEMPTY, &mut two);
+    ask::test(b"star: word 0 ", &two, b"\x00");
+    ask::test(b"star: word 00 ", &two, b"\x00\x00");
+    power(&mut cycle, 1, 31, 15);
+    cycle[139] = 1;
+    ask::star(b"star: 31 letters of every 32 ", &cycle, &mut out);
+}
+
 fn main() {
     sample_9();
     sample_10();
@@ -144,6 +204,9 @@ fn main() {
     rows_8_and_9();
     row_10();
     row_11();
-    rows_12_and_13();
+    rows_12_to_14();
     blanks();
+    products();
+    products_of_powers();
+    stars();
 }
