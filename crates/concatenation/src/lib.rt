@@ -65,10 +65,12 @@ fn concatenate(t: &mut Table, g: Machine, u: &Table, h: Machine) -> Machine
     let n = g.states;
     let k = h.states;
     let a = g.letters;
+    let i = g.initial;
+    let f = g.finals;
     let start = rows::moved(h.initial, n);
-    open_rows(t, a, n, g.finals, start);
+    open_rows(t, a, n, f, start);
     direct_sum::join(t, u, a, n, k);
-    let initial = opened(g.initial, g.finals, start);
+    let initial = opened(i, f, start);
     let finals = rows::moved(h.finals, n);
     Machine {
         states: n + k,

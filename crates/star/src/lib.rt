@@ -55,9 +55,11 @@ fn repeat(t: &mut Table, g: Machine) -> Machine
 {
     let n = g.states;
     let a = g.letters;
-    renew_rows(t, a, n, g.initial, g.finals);
+    let i = g.initial;
+    let f = g.finals;
+    renew_rows(t, a, n, i, f);
     let new = rows::unit(n);
-    let finals = rows::xor(g.finals, new);
+    let finals = rows::xor(f, new);
     Machine {
         states: n + 1,
         letters: a,

@@ -15,30 +15,31 @@ second s = subst (λ a. Bounded a (s .args .u .now) (s .args .h .states) (mask (
 
 moved-requires : tie.Need-moved-requires
 moved-requires c κs =
-    let a = c .args in
-    (c .pre .3, moved-fits (a .g .states) (a .h .states) (mask (a .h .initial)) (c .pre .1 .initial) (c .pre .4))
+    let s = c .before .before in
+    let a = s .args in
+    (s .pre .3, moved-fits (a .g .states) (a .h .states) (mask (a .h .initial)) (s .pre .1 .initial) (s .pre .4))
 
 open-rows-requires : tie.Need-open-rows-requires
-open-rows-requires c κs = let s = c .before .before in (s .pre .0 .letters, s .pre .0 .states, s .pre .0 .rows, s .pre .0 .size)
+open-rows-requires c κs = let s = c .before .before .before .before in (s .pre .0 .letters, s .pre .0 .states, s .pre .0 .rows, s .pre .0 .size)
 
 join-requires : tie.Need-join-requires
-join-requires c κs = let s = c .before .before .before .before in (s .pre .0 .letters, s .pre .3, s .pre .4, second s .rows, c .before .open-rows .ensures .size)
+join-requires c κs = let s = c .before .before .before .before .before .before in (s .pre .0 .letters, s .pre .3, s .pre .4, second s .rows, c .before .open-rows .ensures .size)
 
 opened-requires : tie.Need-opened-requires
 opened-requires c κs = search needs
 
 moved-requires-2 : tie.Need-moved-requires-2
 moved-requires-2 c κs =
-    let s = c .before .before .before .before .before .before in
+    let s = c .before .before .before .before .before .before .before .before in
     let a = s .args in
     (s .pre .3, moved-fits (a .g .states) (a .h .states) (mask (a .h .finals)) (s .pre .1 .finals) (s .pre .4))
 
-add-t14 : tie.Need-add-t14
-add-t14 c = search needs
+add-t16 : tie.Need-add-t16
+add-t16 c = search needs
 
 returns : tie.Need-returns
 returns c =
-    let s = c .before .before .before .before .before .before .before in
+    let s = c .before .before .before .before .before .before .before .before .before in
     let a = s .args in
     let x = c .before .before .before .before .before .before .moved in
     let o = c .before .before .before .before .open-rows in
@@ -55,5 +56,5 @@ concatenate-spec =
     join-requires
     opened-requires
     moved-requires-2
-    add-t14
+    add-t16
     returns)

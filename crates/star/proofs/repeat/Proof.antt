@@ -9,24 +9,24 @@ use Rattle.star.proofs.repeat.Statement.{statement}
 use Rattle.star.proofs.repeat.Tie as tie
 
 renew-rows-requires : tie.Need-renew-rows-requires
-renew-rows-requires c κs = let s = c .before in (s .pre .0 .letters, s .pre .1, s .pre .0 .initial, s .pre .0 .size)
+renew-rows-requires c κs = let s = c .before .before .before in (s .pre .0 .letters, s .pre .1, s .pre .0 .initial, s .pre .0 .size)
 
 unit-requires : tie.Need-unit-requires
-unit-requires c κs = c .before .before .pre .1
+unit-requires c κs = c .before .before .before .before .pre .1
 
 xor-requires : tie.Need-xor-requires
 xor-requires c κs = search needs
 
-add-t9 : tie.Need-add-t9
-add-t9 c = search needs
+add-t11 : tie.Need-add-t11
+add-t11 c = search needs
 
 returns : tie.Need-returns
 returns c =
-    let s = c .before .before .before .before in
+    let s = c .before .before .before .before .before .before in
     let a = s .args in
     let o = c .before .before .renew-rows in
     let u = c .before .unit in
     star-built (a .t .now) (o .last .0) (a .g) (s .pre .0) (s .pre .1) (o .ensures) _ refl refl (u .ensures) (c .xor .ensures ∙ ap (bitXor (mask (a .g .finals))) (u .ensures))
 
 pub repeat-spec : {M : Type 1} → statement M
-repeat-spec = tie.close (tie.spec renew-rows-requires unit-requires xor-requires add-t9 returns)
+repeat-spec = tie.close (tie.spec renew-rows-requires unit-requires xor-requires add-t11 returns)
