@@ -6,12 +6,10 @@ use native.Mathlib.Decide.{decLt}
 use native.Mathlib.Omega.{arith}
 use Rattle.automata.specs.Mask.{bitOf}
 use Rattle.automata.specs.Automaton.{accepts}
-use Rattle.automata.specs.Language.{Same}
 use Rattle.automata.specs.Cuts.{concatenation}
 use Rattle.automata.specs.Minimal.{SameBits}
 use Rattle.automata.specs.Operations.{concatenationOf}
 use Rattle.automata.proofs.Minimal.{bits-language}
-use Rattle.automata.proofs.Concatenation.{concatenation-same}
 use Rattle.automata.proofs.ConcatenationOf.{accepts-concatenation}
 use Rattle.rows.specs.declared.Machine.{Machine}
 use Rattle.rows.specs.Row.{width, mask}
@@ -20,10 +18,8 @@ use Rattle.rows.specs.Beside.{beside}
 use Rattle.rows.specs.Machine.{autoBy, auto, automatonIn, Bounded, Valid}
 use Rattle.rows.proofs.BesideLaws.{if-low, if-high, shl-below}
 use Rattle.direct_sum.specs.Filled.{Filled}
-use Rattle.record.specs.Record.{lettersOf, automatonOf}
-use Rattle.record.specs.Held.{Holds}
 use Rattle.results.specs.Built.{Built}
-use Rattle.results.proofs.BuiltLaws.{built, built-same, held-words}
+use Rattle.results.proofs.BuiltLaws.{built}
 use Rattle.concatenation.specs.Opened.{opened, openedRows}
 use Rattle.concatenation.proofs.OpenedLaws.{opened-lt, rows-lt, concatenation-bits}
 
@@ -82,11 +78,3 @@ module _ (t v u s : List ℕ) (g h : Machine) (ok : Valid t g) (ok′ : Bounded 
       (concatenation-bounded a t v u s n f m start D′ S i f′ ok ok′ small)
       (λ w ow. sym (accepts-concatenation (automatonIn t g) (automatonIn u h) w)
       ∙ sym (bits-language a (auto s (n + m) (opened n f (start * 2 ^ n) i) (f′ * 2 ^ n)) (concatenationOf (automatonIn t g) (automatonIn u h)) (concatenation-same-bits a t v u s n f m start D′ S i f′ ok ok′) w ow))
-
--- The same of the records that the tables hold.
-pub concatenation-held : (bs cs t u s : List ℕ) (g h r : Machine) → lettersOf bs ≡ lettersOf cs → Holds bs t g → Holds cs u h → Built (g .letters) (concatenation (accepts (automatonIn t g)) (accepts (automatonIn u h))) s r
-    → Built (lettersOf bs) (concatenation (accepts (automatonOf bs)) (accepts (automatonOf cs))) s r
-concatenation-held bs cs t u s g h r e G H B =
-    built-same (g .letters) (lettersOf bs) (concatenation (accepts (automatonIn t g)) (accepts (automatonIn u h))) (concatenation (accepts (automatonOf bs)) (accepts (automatonOf cs))) s r (G .letters)
-    (concatenation-same (lettersOf bs) (accepts (automatonOf bs)) (accepts (automatonIn t g)) (accepts (automatonOf cs)) (accepts (automatonIn u h)) (held-words bs t g G)
-    (subst (λ a. Same a (accepts (automatonOf cs)) (accepts (automatonIn u h))) (sym e) (held-words cs u h H))) B

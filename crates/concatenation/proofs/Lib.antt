@@ -1,3 +1,2 @@
 pub mod OpenedLaws
 pub mod BuiltLaws
-pub mod ProductLaws

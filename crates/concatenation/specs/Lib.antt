@@ -1,3 +1,2 @@
--- What a reader must believe: Product. Opened is for the contracts of inner functions.
-pub mod Product
+-- The definitions that the contracts of the concatenation cite.
 pub mod Opened

@@ -1,4 +1,4 @@
-// The product of two records, the concatenation of their words: one automaton, then the other, and the minimal record of its words.
+// The concatenation of two automata in tables: the first, and wherever a row of it ends a word the second as well.
 ghost use mathlib.Core.Path.{_≡_};
 ghost use Prim.Native.Nat.{ℕ, _+_, _^_, _≤_, _<_};
 ghost use lib.ListN.{length};
@@ -7,16 +7,8 @@ ghost use Rattle.rows.specs.Row.{width, mask};
 ghost use Rattle.rows.specs.Table.{blocks, size, at};
 ghost use Rattle.rows.specs.Machine.{Valid};
 ghost use Rattle.direct_sum.specs.Filled.{Filled, Changed};
-ghost use Rattle.record.specs.Record.{lettersOf};
-ghost use Rattle.record.specs.Outcome.{answerIn, bufferIn};
-ghost use Rattle.record.specs.Claims.{Operands};
-ghost use Rattle.operands.specs.Meant.{asMeant};
 ghost use Rattle.results.specs.Built.{heldWords, Built};
-ghost use Rattle.concatenation.specs.Product.{productOutcome, productWords, GivesProduct};
 ghost use Rattle.concatenation.specs.Opened.{opened, openedRows};
-use operands::BLANK;
-use operands::Pair;
-use record::Written;
 use rows::Machine;
 use rows::Row;
 use rows::Table;
@@ -58,7 +50,7 @@ fn open_rows(t: &mut Table, a: usize, n: usize, f: Row, start: Row)
 
 // The automaton of t and g, and wherever one of its rows ends a word the initial row of u and h beside it, over the same letters; its rows
 // in t.
-fn concatenate(t: &mut Table, g: Machine, u: &Table, h: Machine) -> Machine
+pub fn concatenate(t: &mut Table, g: Machine, u: &Table, h: Machine) -> Machine
     requires { ⌜ Valid (now t) g × Valid (now u) h × (h .letters ≡ g .letters) × (g .states < width) × (g .states + h .states ≤ width) ⌝ }
     ensures { λ r. ⌜ Built (g .letters) (concatenation (heldWords (now (t .entry)) g) (heldWords (now (u .entry)) h)) (now (t .exit)) r ⌝ }
 {
@@ -78,45 +70,4 @@ fn concatenate(t: &mut Table, g: Machine, u: &Table, h: Machine) -> Machine
         initial: initial,
         finals: finals,
     }
-}
-
-// The concatenation of two well-formed records over the same letters, its rows in s.
-fn concatenate_records(first: &[u8], second: &[u8], s: &mut Table) -> Machine
-    requires { ⌜ Operands (now first) (now second) × (length (now s) ≡ size) ⌝ }
-    ensures { λ r. ⌜ Built (lettersOf (now (first .entry))) (productWords (now (first .entry)) (now (second .entry))) (now (s .exit)) r ⌝ }
-{
-    let mut u = [0u64; 512];
-    let g = codec::read(first, s);
-    let h = codec::read(second, &mut u);
-    concatenate(s, g, &u, h)
-}
-
-// The product of two records as they are meant: each stands for itself.
-fn product_meant(first: &[u8], second: &[u8], out: &mut [u8]) -> Written
-    ensures answer { λ r. ⌜ r ≡ answerIn (productOutcome (now (first .entry)) (now (second .entry))) (now (out .entry)) ⌝ }
-    ensures buffer { λ _. ⌜ now (out .exit) ≡ bufferIn (productOutcome (now (first .entry)) (now (second .entry))) (now (out .entry)) ⌝ }
-    ensures claims { λ r. ⌜ GivesProduct (now (first .entry)) (now (second .entry)) (now (out .exit)) r ⌝ }
-{
-    let p = operands::check_pair(first, second);
-    let Pair::Both = p else {
-        return results::refuse(p);
-    };
-    let mut s = [0u64; 512];
-    let m = concatenate_records(first, second, &mut s);
-    results::finish(&mut s, m, out)
-}
-
-// Writes the minimal record of the words that have an odd number of cuts into a word of the first record and then a word of the second; a
-// second record of 0 bytes is a blank, the machine with no states over the first one's letters. `claims`: as for operations::sum.
-pub fn product(first: &[u8], second: &[u8], out: &mut [u8]) -> Written
-    ensures answer { λ r. ⌜ r ≡ answerIn (asMeant productOutcome (now (first .entry)) (now (second .entry))) (now (out .entry)) ⌝ }
-    ensures buffer { λ _. ⌜ now (out .exit) ≡ bufferIn (asMeant productOutcome (now (first .entry)) (now (second .entry))) (now (out .entry)) ⌝ }
-    ensures claims { λ r. ⌜ asMeant GivesProduct (now (first .entry)) (now (second .entry)) (now (out .exit)) r ⌝ }
-{
-    if second.len() == 0 {
-        let mut b = [0u8; BLANK];
-        operands::blank(first, &mut b);
-        return product_meant(first, &b, out);
-    }
-    product_meant(first, second, out)
 }

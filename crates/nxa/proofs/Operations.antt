@@ -9,10 +9,9 @@ use Rattle.automata.specs.Operations.{sumOf, meetOf, concatenationOf, starOf}
 use Rattle.record.specs.Record.{maxStates, lettersOf, checkOf, automatonOf, languageOf, encode}
 use Rattle.record.proofs.Numbers.{check-numbered}
 use Rattle.results.specs.Results.{resultOf}
-use Rattle.operations.specs.Operations.{sumOutcome, unaryOf, unaryOutcome}
+use Rattle.operations.specs.Operations.{sumOutcome, productOutcome, unaryOf, unaryOutcome}
 use Rattle.operations.specs.declared.Unary.{Unary}
 use Rattle.intersection.specs.Meet.{maxProduct, meetOutcome}
-use Rattle.concatenation.specs.Product.{productOutcome}
 use Rattle.star.specs.Star.{starOutcome}
 use Rattle.nxa.proofs.Granted.{Reasoned, fit-reasoned, row-reasoned, checked-reasoned, pair-reasoned}
 

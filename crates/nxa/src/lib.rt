@@ -8,9 +8,8 @@ ghost use Rattle.operands.specs.Meant.{asMeant};
 ghost use Rattle.testing.specs.Testing.{testOf};
 ghost use Rattle.minimal.specs.Minimal.{minimalOutcome, minimalAnswer, GivesMinimal};
 ghost use Rattle.compare.specs.Compare.{compareOutcome, compareAnswer, Compares};
-ghost use Rattle.operations.specs.Operations.{sumOutcome, complementOutcome, mirrorOutcome, Sums, Complements, Mirrors};
+ghost use Rattle.operations.specs.Operations.{sumOutcome, productOutcome, complementOutcome, mirrorOutcome, Sums, GivesProduct, Complements, Mirrors};
 ghost use Rattle.intersection.specs.Meet.{meetOutcome, Meets};
-ghost use Rattle.concatenation.specs.Product.{productOutcome, GivesProduct};
 ghost use Rattle.star.specs.Star.{starOutcome, GivesStar};
 ghost use Rattle.lines.specs.Lines.{longest};
 ghost use Rattle.marking.specs.Marking.{markLine, markOutcome};
@@ -102,7 +101,7 @@ pub extern "C" fn nxa_product(first: &[u8], second: &[u8], out: &mut [u8]) -> Re
     ensures buffer { λ _. ⌜ now (out .exit) ≡ bufferIn (asMeant productOutcome (now (first .entry)) (now (second .entry))) (now (out .entry)) ⌝ }
     ensures claims { λ r. ⌜ asMeant GivesProduct (now (first .entry)) (now (second .entry)) (now (out .exit)) (writtenIn r) ⌝ }
 {
-    replies::of_written(concatenation::product(first, second, out))
+    replies::of_written(operations::product(first, second, out))
 }
 
 // Writes the minimal record of the words over the record's letters that it does not accept.

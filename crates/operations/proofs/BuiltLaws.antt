@@ -7,12 +7,13 @@ use lib.Bits.{bitXor}
 use Rattle.automata.specs.Xor.{_⊕_}
 use Rattle.automata.specs.Mask.{bitOf}
 use Rattle.automata.specs.Automaton.{accepts}
-use Rattle.automata.specs.Language.{Same, symmetricDifference, complement, reversal}
+use Rattle.automata.specs.Language.{Language, Same, symmetricDifference, complement, reversal}
 use Rattle.automata.specs.Minimal.{SameBits}
 use Rattle.automata.specs.Operations.{sumOf, allWords, mirrorOf}
 use Rattle.automata.proofs.Shortlex.{over-reverse}
 use Rattle.automata.proofs.Minimal.{bits-language}
 use Rattle.automata.proofs.Operations.{accepts-sum, accepts-complement, accepts-mirror}
+use Rattle.automata.proofs.Concatenation.{concatenation-same}
 use Rattle.rows.specs.declared.Machine.{Machine}
 use Rattle.rows.specs.Row.{width, mask}
 use Rattle.rows.specs.Table.{blocks, at, stored}
@@ -28,6 +29,9 @@ use Rattle.record.specs.Record.{lettersOf, automatonOf}
 use Rattle.record.specs.Held.{Holds}
 use Rattle.results.specs.Built.{Built}
 use Rattle.results.proofs.BuiltLaws.{built, built-same, held-words}
+use Rattle.operations.specs.Operations.{binaryLanguage}
+use Rattle.operations.specs.declared.Binary.{Binary}
+use Rattle.operations.specs.declared.Binary.the-variants.{Sum, Product}
 
 -- ---- sum
 
@@ -47,11 +51,19 @@ module _ (t u s : List ℕ) (g h : Machine) (ok : Valid t g) (ok′ : Bounded (g
       ∙ sym (bits-language (g .letters) (auto s (n + k) x y) (sumOf (automatonIn t g) (automatonIn u h))
       (sum-bits (g .letters) t n (mask (g .initial)) (mask (g .finals)) u k (mask (h .initial)) (mask (h .finals)) ok ok′ s S) w ow))
 
-pub sum-held : (bs cs t u s : List ℕ) (g h r : Machine) → lettersOf bs ≡ lettersOf cs → Holds bs t g → Holds cs u h → Built (g .letters) (symmetricDifference (accepts (automatonIn t g)) (accepts (automatonIn u h))) s r
-    → Built (lettersOf bs) (symmetricDifference (accepts (automatonOf bs)) (accepts (automatonOf cs))) s r
-sum-held bs cs t u s g h r e G H B =
-    built-same (g .letters) (lettersOf bs) (symmetricDifference (accepts (automatonIn t g)) (accepts (automatonIn u h))) (symmetricDifference (accepts (automatonOf bs)) (accepts (automatonOf cs))) s r (G .letters)
-    (λ w ow. ap₂ _⊕_ (held-words bs t g G w ow) (subst (λ a. Same a (accepts (automatonOf cs)) (accepts (automatonIn u h))) (sym e) (held-words cs u h H) w ow)) B
+-- ---- two records
+
+-- An operation on two languages asks for their words over the letters alone.
+binary-same : (k : Binary) (a : ℕ) (K M L N : Language) → Same a K M → Same a L N → Same a (binaryLanguage k K L) (binaryLanguage k M N)
+binary-same Sum a K M L N h g w ow = ap₂ _⊕_ (h w ow) (g w ow)
+binary-same Product a K M L N h g w ow = concatenation-same a K M L N h g w ow
+
+pub join-held : (k : Binary) (bs cs t u s : List ℕ) (g h r : Machine) → lettersOf bs ≡ lettersOf cs → Holds bs t g → Holds cs u h → Built (g .letters) (binaryLanguage k (accepts (automatonIn t g)) (accepts (automatonIn u h))) s r
+    → Built (lettersOf bs) (binaryLanguage k (accepts (automatonOf bs)) (accepts (automatonOf cs))) s r
+join-held k bs cs t u s g h r e G H B =
+    built-same (g .letters) (lettersOf bs) (binaryLanguage k (accepts (automatonIn t g)) (accepts (automatonIn u h))) (binaryLanguage k (accepts (automatonOf bs)) (accepts (automatonOf cs))) s r (G .letters)
+    (binary-same k (lettersOf bs) (accepts (automatonOf bs)) (accepts (automatonIn t g)) (accepts (automatonOf cs)) (accepts (automatonIn u h)) (held-words bs t g G)
+    (subst (λ a. Same a (accepts (automatonOf cs)) (accepts (automatonIn u h))) (sym e) (held-words cs u h H))) B
 
 -- ---- complement
 

@@ -1,4 +1,4 @@
-// Sum, complement and mirror: from records to the minimal record of the result.
+// Sum, product, complement and mirror: from records to the minimal record of the result.
 ghost use mathlib.Core.Path.{_≡_};
 ghost use Prim.Native.Nat.{_+_, _≤_, _<_};
 ghost use lib.ListN.{length};
@@ -12,7 +12,7 @@ ghost use Rattle.record.specs.Outcome.{answerIn, bufferIn};
 ghost use Rattle.record.specs.Claims.{Operands};
 ghost use Rattle.operands.specs.Meant.{asMeant};
 ghost use Rattle.results.specs.Built.{heldWords, Built};
-ghost use Rattle.operations.specs.Operations.{sumOutcome, sumWords, unaryLanguage, unaryOutcome, complementOutcome, mirrorOutcome, Sums, Operates, Complements, Mirrors};
+ghost use Rattle.operations.specs.Operations.{sumOutcome, productOutcome, binaryOutcome, binaryLanguage, unaryLanguage, unaryOutcome, complementOutcome, mirrorOutcome, Sums, GivesProduct, Combines, Operates, Complements, Mirrors};
 use operands::BLANK;
 use operands::Pair;
 use record::Checked;
@@ -20,6 +20,12 @@ use record::Written;
 use rows::Machine;
 use rows::Row;
 use rows::Table;
+
+// The operations on two records that have an automaton with the states of both.
+pub enum Binary {
+    Sum,
+    Product,
+}
 
 // The operations on one record.
 pub enum Unary {
@@ -72,15 +78,26 @@ fn all_words(t: &mut Table, a: usize, one: Row)
     }
 }
 
-// The sum of two well-formed records over the same letters, its rows in s.
-fn add_records(first: &[u8], second: &[u8], s: &mut Table) -> Machine
+// The automaton of an operation on two automata over the same letters, its rows in t.
+fn join(k: Binary, t: &mut Table, g: Machine, u: &Table, h: Machine) -> Machine
+    requires { ⌜ Valid (now t) g × Valid (now u) h × (h .letters ≡ g .letters) × (g .states < width) × (g .states + h .states ≤ width) ⌝ }
+    ensures { λ r. ⌜ Built (g .letters) (binaryLanguage k (heldWords (now (t .entry)) g) (heldWords (now (u .entry)) h)) (now (t .exit)) r ⌝ }
+{
+    match k {
+        Binary::Sum => add(t, g, u, h),
+        Binary::Product => concatenation::concatenate(t, g, u, h),
+    }
+}
+
+// The same of two well-formed records over the same letters, its rows in s.
+fn join_records(k: Binary, first: &[u8], second: &[u8], s: &mut Table) -> Machine
     requires { ⌜ Operands (now first) (now second) × (length (now s) ≡ size) ⌝ }
-    ensures { λ r. ⌜ Built (lettersOf (now (first .entry))) (sumWords (now (first .entry)) (now (second .entry))) (now (s .exit)) r ⌝ }
+    ensures { λ r. ⌜ Built (lettersOf (now (first .entry))) (binaryLanguage k (languageOf (now (first .entry))) (languageOf (now (second .entry)))) (now (s .exit)) r ⌝ }
 {
     let mut u = [0u64; 512];
     let g = codec::read(first, s);
     let h = codec::read(second, &mut u);
-    add(s, g, &u, h)
+    join(k, s, g, &u, h)
 }
 
 // A well-formed record beside the automaton of every word, its rows in s.
@@ -116,19 +133,33 @@ fn turn_record(bytes: &[u8], s: &mut Table) -> Machine
     machine(n, a, f, i)
 }
 
-// The sum of two records as they are meant: each stands for itself.
-fn sum_meant(first: &[u8], second: &[u8], out: &mut [u8]) -> Written
-    ensures answer { λ r. ⌜ r ≡ answerIn (sumOutcome (now (first .entry)) (now (second .entry))) (now (out .entry)) ⌝ }
-    ensures buffer { λ _. ⌜ now (out .exit) ≡ bufferIn (sumOutcome (now (first .entry)) (now (second .entry))) (now (out .entry)) ⌝ }
-    ensures claims { λ r. ⌜ Sums (now (first .entry)) (now (second .entry)) (now (out .exit)) r ⌝ }
+// An operation on two records as they are meant: each stands for itself. Sum and product have the same checks, limit and writing.
+fn combine_meant(k: Binary, first: &[u8], second: &[u8], out: &mut [u8]) -> Written
+    ensures answer { λ r. ⌜ r ≡ answerIn (binaryOutcome k (now (first .entry)) (now (second .entry))) (now (out .entry)) ⌝ }
+    ensures buffer { λ _. ⌜ now (out .exit) ≡ bufferIn (binaryOutcome k (now (first .entry)) (now (second .entry))) (now (out .entry)) ⌝ }
+    ensures claims { λ r. ⌜ Combines k (now (first .entry)) (now (second .entry)) (now (out .exit)) r ⌝ }
 {
     let p = operands::check_pair(first, second);
     let Pair::Both = p else {
         return results::refuse(p);
     };
     let mut s = [0u64; 512];
-    let m = add_records(first, second, &mut s);
+    let m = join_records(k, first, second, &mut s);
     results::finish(&mut s, m, out)
+}
+
+// An operation on two records, the second of which may be a blank.
+fn combine(k: Binary, first: &[u8], second: &[u8], out: &mut [u8]) -> Written
+    ensures answer { λ r. ⌜ r ≡ answerIn (asMeant (binaryOutcome k) (now (first .entry)) (now (second .entry))) (now (out .entry)) ⌝ }
+    ensures buffer { λ _. ⌜ now (out .exit) ≡ bufferIn (asMeant (binaryOutcome k) (now (first .entry)) (now (second .entry))) (now (out .entry)) ⌝ }
+    ensures claims { λ r. ⌜ asMeant (Combines k) (now (first .entry)) (now (second .entry)) (now (out .exit)) r ⌝ }
+{
+    if second.len() == 0 {
+        let mut b = [0u8; BLANK];
+        operands::blank(first, &mut b);
+        return combine_meant(k, first, &b, out);
+    }
+    combine_meant(k, first, second, out)
 }
 
 // Writes the minimal record of the words that just one of two records accepts; a second record of 0 bytes is a blank, the machine with no
@@ -140,12 +171,17 @@ pub fn sum(first: &[u8], second: &[u8], out: &mut [u8]) -> Written
     ensures buffer { λ _. ⌜ now (out .exit) ≡ bufferIn (asMeant sumOutcome (now (first .entry)) (now (second .entry))) (now (out .entry)) ⌝ }
     ensures claims { λ r. ⌜ asMeant Sums (now (first .entry)) (now (second .entry)) (now (out .exit)) r ⌝ }
 {
-    if second.len() == 0 {
-        let mut b = [0u8; BLANK];
-        operands::blank(first, &mut b);
-        return sum_meant(first, &b, out);
-    }
-    sum_meant(first, second, out)
+    combine(Binary::Sum, first, second, out)
+}
+
+// Writes the minimal record of the words that have an odd number of cuts into a word of the first record and then a word of the second; a
+// second record of 0 bytes is a blank.
+pub fn product(first: &[u8], second: &[u8], out: &mut [u8]) -> Written
+    ensures answer { λ r. ⌜ r ≡ answerIn (asMeant productOutcome (now (first .entry)) (now (second .entry))) (now (out .entry)) ⌝ }
+    ensures buffer { λ _. ⌜ now (out .exit) ≡ bufferIn (asMeant productOutcome (now (first .entry)) (now (second .entry))) (now (out .entry)) ⌝ }
+    ensures claims { λ r. ⌜ asMeant GivesProduct (now (first .entry)) (now (second .entry)) (now (out .exit)) r ⌝ }
+{
+    combine(Binary::Product, first, second, out)
 }
 
 // The automaton of an operation on a well-formed record, its rows in s.

@@ -41,7 +41,7 @@ pub fn meet(name: &[u8], first: &[u8], second: &[u8]) {
 
 pub fn product(name: &[u8], first: &[u8], second: &[u8], out: &mut [u8]) {
     say(name);
-    show::written(concatenation::product(first, second, out));
+    show::written(operations::product(first, second, out));
 }
 
 pub fn star(name: &[u8], bytes: &[u8], out: &mut [u8]) {

@@ -4,7 +4,7 @@ use lib.ListN.{length}
 use Rattle.record.specs.Record.{lettersOf}
 use Rattle.record.specs.Outcome.{answerIn}
 use Rattle.operands.specs.Meant.{meantOver}
-use Rattle.concatenation.specs.Product.{productOutcome, GivesProduct}
+use Rattle.operations.specs.Operations.{productOutcome, GivesProduct}
 use Rattle.replies.specs.Reply.{ofWritten, writtenIn}
 use Rattle.nxa.proofs.Granted.{written-back, told}
 use Rattle.nxa.proofs.Operations.{product-reasoned}
