@@ -7,9 +7,9 @@ use lib.ListN.{length, take, drop}
 use Rattle.automata.specs.Xor.{_⊕_, xorBelow}
 use Rattle.automata.specs.Automaton.{odd}
 use Rattle.automata.specs.Language.{Language, Same, symmetricDifference}
-use Rattle.automata.proofs.Xor.{xor-cong, xor-none, xor-false, xor-assoc, xor-scale, xor-scale-right, xor-swap, xor-coef, xor-family, and-xor, odd-add, odd-sum, odd-when}
-use Rattle.automata.proofs.Shortlex.{over-take, over-drop}
 use Rattle.automata.specs.Cuts.{emptyWord, after, cutCount, concatenation}
+use Rattle.automata.proofs.Xor.{xor-cong, xor-none, xor-false, xor-assoc, xor-scale, xor-scale-right, xor-swap, xor-coef, and-xor, odd-add, odd-sum, odd-when}
+use Rattle.automata.proofs.Shortlex.{over-take, over-drop}
 use Rattle.automata.proofs.Cuts.{cuts-nil, cuts-cons}
 
 odd-one : (b : Bool) → odd (cond b 1 0) ≡ b
@@ -60,21 +60,15 @@ concatenation-scale b K L w =
     ∙ ap (λ x. b && x) (sym (concatenation-places K L w))
 
 -- The concatenation with the empty language is empty.
-pub concatenation-none : (L : Language) (w : List ℕ) → concatenation (λ u. false) L w ≡ false
+concatenation-none : (L : Language) (w : List ℕ) → concatenation (λ u. false) L w ≡ false
 concatenation-none L w = concatenation-places (λ u. false) L w ∙ xor-none (suc (length w)) (λ i p. refl)
 
--- The concatenation distributes over the symmetric difference, on either side.
+-- The concatenation distributes over the symmetric difference of its first languages.
 pub concatenation-sum-left : (K M L : Language) (w : List ℕ) → concatenation (symmetricDifference K M) L w ≡ symmetricDifference (concatenation K L) (concatenation M L) w
 concatenation-sum-left K M L w =
     concatenation-places (symmetricDifference K M) L w
     ∙ xor-coef (suc (length w)) (λ i. K (take i w)) (λ i. M (take i w)) (λ i. L (drop i w))
     ∙ ap₂ _⊕_ (sym (concatenation-places K L w)) (sym (concatenation-places M L w))
-
-pub concatenation-sum-right : (K L M : Language) (w : List ℕ) → concatenation K (symmetricDifference L M) w ≡ symmetricDifference (concatenation K L) (concatenation K M) w
-concatenation-sum-right K L M w =
-    concatenation-places K (symmetricDifference L M) w
-    ∙ xor-family (suc (length w)) (λ i. K (take i w)) (λ i. L (drop i w)) (λ i. M (drop i w))
-    ∙ ap₂ _⊕_ (sym (concatenation-places K L w)) (sym (concatenation-places K M w))
 
 -- ---- unit
 
@@ -89,7 +83,7 @@ concatenation-unit-right L (l ∷ w) = concatenation-cons L emptyWord l w ∙ ap
 -- ---- associativity
 
 -- What may follow a letter in a concatenation.
-pub concatenation-after : (K L M : Language) (l : ℕ) (w : List ℕ) → concatenation (after l (concatenation K L)) M w ≡ (K [] && concatenation (after l L) M w) ⊕ concatenation (concatenation (after l K) L) M w
+concatenation-after : (K L M : Language) (l : ℕ) (w : List ℕ) → concatenation (after l (concatenation K L)) M w ≡ (K [] && concatenation (after l L) M w) ⊕ concatenation (concatenation (after l K) L) M w
 concatenation-after K L M l w =
     concatenation-left (after l (concatenation K L)) (λ u. (K [] && after l L u) ⊕ concatenation (after l K) L u) M w (λ u. concatenation-cons K L l u)
     ∙ concatenation-sum-left (λ u. K [] && after l L u) (concatenation (after l K) L) M w

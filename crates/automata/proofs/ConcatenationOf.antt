@@ -8,12 +8,12 @@ use Rattle.automata.specs.Automaton.{Automaton, accepts, odd}
 use Rattle.automata.specs.Language.{Language}
 use Rattle.automata.specs.Row.{acceptsFrom, rowAccepts}
 use Rattle.automata.specs.Operations.{joined}
-use Rattle.automata.proofs.Xor.{xor-cong, xor-none, xor-false, xor-comm, xor-append, xor-scale}
-use Rattle.automata.proofs.Acceptance.{from-nil, from-cons, accepts-row}
-use Rattle.automata.proofs.Operations.{joined-low, joined-high}
 use Rattle.automata.specs.Count.{Count}
 use Rattle.automata.specs.Cuts.{after, Cut, cutCount, concatenation}
 use Rattle.automata.specs.Operations.{ends, concatenationOf}
+use Rattle.automata.proofs.Xor.{xor-cong, xor-none, xor-false, xor-comm, xor-append, xor-scale}
+use Rattle.automata.proofs.Acceptance.{from-nil, from-cons, accepts-row}
+use Rattle.automata.proofs.Operations.{joined-low, joined-high}
 use Rattle.automata.proofs.Count.{count-unique}
 use Rattle.automata.proofs.Cuts.{cut-count}
 use Rattle.automata.proofs.Concatenation.{concatenation-nil, concatenation-cons, concatenation-left, concatenation-linear}

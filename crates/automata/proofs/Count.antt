@@ -3,10 +3,12 @@ use mathlib.Core.Path.{_≡_, refl, sym, ap, ap₂, subst, _∙_}
 use mathlib.Core.Bool.{Bool, true, false, cond, false≢true}
 use mathlib.Core.Logic.{_⊎_, inl, inr}
 use mathlib.Core.List.{List, [], _∷_, _++_, map}
-use Prim.Native.Nat.{ℕ, suc, _+_, _≤_}
-use native.Mathlib.Nat.{le-antisymm}
+use Prim.Native.Nat.{ℕ, zero, suc, _+_, _<_, _≤_}
+use native.Mathlib.Nat.{le-antisymm, not-suc-le-zero}
+use native.Mathlib.Decide.{ℕ-discrete}
 use native.Mathlib.Omega.{arith}
 use lib.ListN.{length, length-append}
+use Rattle.automata.specs.Automaton.{sumBelow}
 use Rattle.automata.specs.Count.{Member, Distinct, Count}
 
 -- ---- membership
@@ -29,7 +31,7 @@ mem-cases x (y ∷ xs) ys (inr h) = go (mem-cases x xs ys h)
     go (inl m) = inl (inr m)
     go (inr m) = inr m
 
-pub distinct-append : {X : Type 0} (xs ys : List X) → Distinct xs → Distinct ys → ((x : X) → Member x xs → Member x ys → ⊥) → Distinct (xs ++ ys)
+distinct-append : {X : Type 0} (xs ys : List X) → Distinct xs → Distinct ys → ((x : X) → Member x xs → Member x ys → ⊥) → Distinct (xs ++ ys)
 distinct-append [] ys d e apart = e
 distinct-append (x ∷ xs) ys d e apart = (λ m. go (mem-cases x xs ys m), distinct-append xs ys (d .1) e (λ z m n. apart z (inr m) n))
   where
@@ -47,11 +49,11 @@ mem-map-cases f y [] m = absurd m
 mem-map-cases f y (x ∷ xs) (inl e) = (x, e, inl refl)
 mem-map-cases f y (x ∷ xs) (inr m) = let t = mem-map-cases f y xs m in (t .0, t .1, inr (t .2))
 
-pub length-map : {X Y : Type 0} (f : X → Y) (xs : List X) → length (map f xs) ≡ length xs
+length-map : {X Y : Type 0} (f : X → Y) (xs : List X) → length (map f xs) ≡ length xs
 length-map f [] = refl
 length-map f (x ∷ xs) = ap suc (length-map f xs)
 
-pub distinct-map : {X Y : Type 0} (f : X → Y) → ((x z : X) → f x ≡ f z → x ≡ z) → (xs : List X) → Distinct xs → Distinct (map f xs)
+distinct-map : {X Y : Type 0} (f : X → Y) → ((x z : X) → f x ≡ f z → x ≡ z) → (xs : List X) → Distinct xs → Distinct (map f xs)
 distinct-map f inj [] d = tt
 distinct-map f inj (x ∷ xs) d = (λ m. let t = mem-map-cases f (f x) xs m in d .0 (subst (λ z. Member z xs) (sym (inj x (t .0) (t .1))) (t .2)), distinct-map f inj xs (d .1))
 
@@ -141,3 +143,14 @@ count-image {Q = Q} f inj into from c = record {
   sound = λ y m. let t = mem-map-cases f y (c .each) m in subst Q (sym (t .1)) (into (t .0) (c .sound (t .0) (t .2)));
   complete = λ y q. let t = from y q in subst (λ z. Member z (map f (c .each))) (sym (t .1)) (mem-map f (t .0) (c .each) (c .complete (t .0) (t .2)));
 }
+
+-- Things of k kinds.
+pub count-below : {X : Type 0} (k : ℕ) (P : ℕ → X → Type 0) (n : ℕ → ℕ) → ((i j : ℕ) (x : X) → P i x → P j x → i ≡ j) → ((i : ℕ) → Count (P i) (n i)) → Count (λ x. (i : ℕ) × (i < k) × P i x) (sumBelow k n)
+count-below zero P n one c = record { each = []; size = refl; distinct = tt; sound = λ x m. absurd m; complete = λ x p. absurd (not-suc-le-zero (p .1)) }
+count-below (suc k) P n one c =
+    count-both (λ x p. (p .0, omega (arith, p .1), p .2)) (λ x p. (k, omega arith, p)) (λ x p. kind x p (ℕ-discrete (p .0) k)) (λ x p q. omega (arith, p .1, one (p .0) k x (p .2) q))
+    (count-below k P n one c) (c k)
+  where
+    kind : (x : _) (p : (i : ℕ) × (i < suc k) × P i x) → Dec (p .0 ≡ k) → ((i : ℕ) × (i < k) × P i x) ⊎ P k x
+    kind x p (yes e) = inr (subst (λ i. P i x) e (p .2))
+    kind x p (no e) = inl (p .0, omega (arith, p .1, e), p .2)

@@ -8,9 +8,9 @@ use native.Mathlib.Omega.{arith}
 use lib.ListN.{length, take, drop}
 use Rattle.automata.specs.Automaton.{sumBelow}
 use Rattle.automata.specs.Language.{Language}
-use Rattle.automata.proofs.Span.{and-parts}
 use Rattle.automata.specs.Count.{Count}
 use Rattle.automata.specs.Cuts.{after, Cut, cutCount, joinAll, AllIn, Pieces, restCount, starCount}
+use Rattle.automata.proofs.Span.{and-parts}
 use Rattle.automata.proofs.Count.{count-same, count-one, count-when, count-both, count-image}
 
 -- ---- concatenation
@@ -86,7 +86,7 @@ cut-count K L (l ∷ w) = subst (Count (Cut K L (l ∷ w))) (sym (cuts-cons K L 
 -- ---- star
 
 -- The words of L that are not empty.
-abbrev pub withoutEmpty : Language → Language
+abbrev withoutEmpty : Language → Language
 withoutEmpty L [] = false
 withoutEmpty L (l ∷ w) = L (l ∷ w)
 
@@ -158,7 +158,7 @@ module _ (L : Language) where
       (count-when (K []) (begins-count l w (restCount (after l L) L w) (rest-count w (after l L))))
 
   -- The number of cuts of a word is the number of lists of words of L, none of them empty, that make it up.
-  pub star-count-nonempty : (w : List ℕ) → Count (Pieces (withoutEmpty L) w) (starCount L w)
+  star-count-nonempty : (w : List ℕ) → Count (Pieces (withoutEmpty L) w) (starCount L w)
   star-count-nonempty [] = count-one [] (refl, tt) only
     where
       only : (ps : List (List ℕ)) → Pieces (withoutEmpty L) [] ps → ps ≡ []

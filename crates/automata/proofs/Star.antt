@@ -1,38 +1,29 @@
--- The star of a language that lacks the empty word: the one solution of S = the empty word xor (L concatenation S).
+-- The star of a language that lacks the empty word: the one solution of S = the empty word xor the concatenation of L and S.
 use mathlib.Core.Path.{_≡_, refl, sym, ap, ap₂, _∙_}
-use mathlib.Core.Bool.{Bool, true, false, _&&_, cond}
+use mathlib.Core.Bool.{true, false, _&&_, cond}
 use mathlib.Core.List.{List, [], _∷_}
-use Prim.Native.Nat.{ℕ, zero, suc, _+_, max}
-use native.Mathlib.Omega.{arith}
+use Prim.Native.Nat.{ℕ, zero, suc, _+_}
 use lib.ListN.{drop}
 use Rattle.automata.specs.Xor.{_⊕_}
 use Rattle.automata.specs.Automaton.{odd}
 use Rattle.automata.specs.Word.{Over}
 use Rattle.automata.specs.Language.{Language, Same, symmetricDifference}
-use Rattle.automata.proofs.Xor.{xor-false, xor-self, xor-assoc, xor-comm, odd-add, odd-when}
-use Rattle.automata.proofs.Shortlex.{over-more}
 use Rattle.automata.specs.Cuts.{emptyWord, after, concatenation, restCount, starCount, star, SolvesStar}
-use Rattle.automata.proofs.Concatenation.{concatenation-nil, concatenation-cons, concatenation-reads, concatenation-left, concatenation-sum-left, concatenation-sum-right, concatenation-unit-left, concatenation-unit-right, concatenation-assoc}
-
-xor-cancel : (a b : Bool) → (a ⊕ b) ⊕ b ≡ a
-xor-cancel a b = xor-assoc a b b ∙ ap (λ x. a ⊕ x) (xor-self b) ∙ xor-false a
-
--- The empty word has one cut, into none.
-pub star-nil : (L : Language) → starCount L [] ≡ 1
-star-nil L = refl
+use Rattle.automata.proofs.Xor.{xor-comm, odd-add, odd-when}
+use Rattle.automata.proofs.Concatenation.{concatenation-nil, concatenation-cons, concatenation-reads}
 
 -- The rest of a piece, and then pieces: a concatenation with the star.
-pub rest-product : (K L : Language) (w : List ℕ) → odd (restCount K L w) ≡ concatenation K (star L) w
-rest-product K L [] = odd-when (K []) 1 ∙ sym (concatenation-nil K (star L))
-rest-product K L (l ∷ w) =
+rest-concatenation : (K L : Language) (w : List ℕ) → odd (restCount K L w) ≡ concatenation K (star L) w
+rest-concatenation K L [] = odd-when (K []) 1 ∙ sym (concatenation-nil K (star L))
+rest-concatenation K L (l ∷ w) =
     odd-add (restCount (after l K) L w) (cond (K []) (restCount (after l L) L w) 0)
-    ∙ ap₂ _⊕_ (rest-product (after l K) L w) (odd-when (K []) (restCount (after l L) L w))
+    ∙ ap₂ _⊕_ (rest-concatenation (after l K) L w) (odd-when (K []) (restCount (after l L) L w))
     ∙ xor-comm (concatenation (after l K) (star L) w) (K [] && star L (l ∷ w))
     ∙ sym (concatenation-cons K (star L) l w)
 
 -- What may follow a letter in the star.
 pub star-cons : (L : Language) (l : ℕ) (w : List ℕ) → star L (l ∷ w) ≡ concatenation (after l L) (star L) w
-star-cons L l w = rest-product (after l L) L w
+star-cons L l w = rest-concatenation (after l L) L w
 
 -- A concatenation with a language that lacks the empty word, at a word with a first letter.
 lacking-cons : (L M : Language) → L [] ≡ false → (l : ℕ) (w : List ℕ) → concatenation L M (l ∷ w) ≡ concatenation (after l L) M w
@@ -45,6 +36,9 @@ lacking-nil L M e = concatenation-nil L M ∙ ap (λ b. b && M []) e
 pub star-equation : (L : Language) → L [] ≡ false → (w : List ℕ) → star L w ≡ symmetricDifference emptyWord (concatenation L (star L)) w
 star-equation L e [] = sym (ap (λ b. true ⊕ b) (lacking-nil L (star L) e))
 star-equation L e (l ∷ w) = star-cons L l w ∙ sym (lacking-cons L (star L) e l w)
+
+pub star-solves : (a : ℕ) (L : Language) → L [] ≡ false → SolvesStar a L (star L)
+star-solves a L e w ow = star-equation L e w
 
 module _ (a : ℕ) (L T : Language) (e : L [] ≡ false) (solves : SolvesStar a L T) where
   ends-same : (w : List ℕ) → Over a w → (i : ℕ) → T (drop i w) ≡ star L (drop i w)
@@ -59,43 +53,6 @@ module _ (a : ℕ) (L T : Language) (e : L [] ≡ false) (solves : SolvesStar a 
   -- And it is the only solution.
   pub star-unique : Same a T (star L)
   star-unique w ow = ends-same w ow 0
-
--- ---- the star from the right
-
-over-some : (w : List ℕ) → (a : ℕ) × Over a w
-over-some [] = (0, tt)
-over-some (l ∷ w) = let t = over-some w in (max (suc l) (t .0), (omega arith, over-more (omega arith) w (t .1)))
-
-module _ (L : Language) (e : L [] ≡ false) where
-  fromRight : Language
-  fromRight = symmetricDifference emptyWord (concatenation (star L) L)
-
-  -- It solves the star's equation: 1 + L(1 + SL) = 1 + (1 + LS)L = 1 + SL.
-  right-solves : (w : List ℕ) → fromRight w ≡ symmetricDifference emptyWord (concatenation L fromRight) w
-  unfolding fromRight
-  right-solves w = ap (λ b. emptyWord w ⊕ b)
-      (concatenation-left (star L) (symmetricDifference emptyWord (concatenation L (star L))) L w (star-equation L e)
-      ∙ concatenation-sum-left emptyWord (concatenation L (star L)) L w
-      ∙ ap₂ _⊕_ (concatenation-unit-left L w ∙ sym (concatenation-unit-right L w)) (concatenation-assoc L (star L) L w)
-      ∙ sym (concatenation-sum-right L emptyWord (concatenation (star L) L) w))
-
-  -- The star may as well be taken from its last piece.
-  pub star-equation-right : (w : List ℕ) → star L w ≡ symmetricDifference emptyWord (concatenation (star L) L) w
-  unfolding fromRight
-  star-equation-right w = let t = over-some w in sym (star-unique (t .0) L fromRight e (λ u ou. right-solves u) w (t .1))
-
-  -- The star is the inverse of the symmetric difference of the empty word and L.
-  pub star-inverse-left : (w : List ℕ) → concatenation (symmetricDifference emptyWord L) (star L) w ≡ emptyWord w
-  star-inverse-left w =
-      concatenation-sum-left emptyWord L (star L) w
-      ∙ ap (λ b. b ⊕ concatenation L (star L) w) (concatenation-unit-left (star L) w ∙ star-equation L e w)
-      ∙ xor-cancel (emptyWord w) (concatenation L (star L) w)
-
-  pub star-inverse-right : (w : List ℕ) → concatenation (star L) (symmetricDifference emptyWord L) w ≡ emptyWord w
-  star-inverse-right w =
-      concatenation-sum-right (star L) emptyWord L w
-      ∙ ap (λ b. b ⊕ concatenation (star L) L w) (concatenation-unit-right (star L) w ∙ star-equation-right w)
-      ∙ xor-cancel (emptyWord w) (concatenation (star L) L w)
 
 -- ---- languages with the same words
 

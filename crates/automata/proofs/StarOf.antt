@@ -7,12 +7,12 @@ use Rattle.automata.specs.Xor.{_⊕_}
 use Rattle.automata.specs.Automaton.{Automaton, accepts, odd}
 use Rattle.automata.specs.Row.{acceptsFrom, rowAccepts, times}
 use Rattle.automata.specs.Operations.{joined}
-use Rattle.automata.proofs.Xor.{xor-cong, xor-none, xor-false, xor-comm, xor-append, xor-coef, xor-scale}
-use Rattle.automata.proofs.Acceptance.{from-nil, from-cons, accepts-row, accepts-append}
-use Rattle.automata.proofs.Operations.{joined-low, joined-high}
 use Rattle.automata.specs.Count.{Count}
 use Rattle.automata.specs.Cuts.{after, concatenation, Pieces, starCount, star}
 use Rattle.automata.specs.Operations.{starOf}
+use Rattle.automata.proofs.Xor.{xor-cong, xor-none, xor-false, xor-comm, xor-append, xor-coef, xor-scale}
+use Rattle.automata.proofs.Acceptance.{from-nil, from-cons, accepts-row, accepts-append}
+use Rattle.automata.proofs.Operations.{joined-low, joined-high}
 use Rattle.automata.proofs.Count.{count-unique}
 use Rattle.automata.proofs.Cuts.{star-count}
 use Rattle.automata.proofs.Concatenation.{concatenation-nil, concatenation-cons, concatenation-left, concatenation-linear, concatenation-scale, concatenation-sum-left}

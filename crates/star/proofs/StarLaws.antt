@@ -1,11 +1,10 @@
 -- The outcome of the star, case by case, and its claims over all words.
 use mathlib.Core.Path.{_≡_, refl, sym, ap, _∙_}
-use mathlib.Core.Bool.{Bool, true, false, cond, true≢false}
+use mathlib.Core.Bool.{Bool, true, false}
 use mathlib.Core.List.{List, []}
 use Prim.Native.Nat.{ℕ}
 use native.Mathlib.Omega.{arith}
 use lib.ListN.{length}
-use Rattle.automata.specs.Automaton.{accepts}
 use Rattle.automata.specs.Operations.{ends, starOf}
 use Rattle.automata.proofs.ConcatenationOf.{accepts-nil}
 use Rattle.automata.proofs.StarOf.{accepts-star}

@@ -1,6 +1,5 @@
 -- `concatenate`: the first one's rows opened, those of the second beside them.
-use mathlib.Core.Path.{refl, ap, subst, _∙_}
-use native.Mathlib.Omega.{arith}
+use mathlib.Core.Path.{refl, subst}
 use Rattle.rows.specs.Row.{mask}
 use Rattle.rows.specs.Machine.{Bounded}
 use Rattle.rows.proofs.BesideLaws.{moved-fits}

@@ -1,6 +1,5 @@
 -- `repeat`: the rows renewed, the new state initial and final.
 use mathlib.Core.Path.{refl, ap, _∙_}
-use native.Mathlib.Omega.{arith}
 use lib.Bits.{bitXor}
 use Rattle.rows.specs.Row.{mask}
 use Rattle.star.proofs.BuiltLaws.{star-built}
