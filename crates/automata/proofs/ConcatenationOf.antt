@@ -4,18 +4,15 @@ use mathlib.Core.Bool.{Bool, false, _&&_, and-false, and-assoc}
 use mathlib.Core.List.{List, [], _∷_}
 use Prim.Native.Nat.{ℕ, _+_, _<_}
 use Rattle.automata.specs.Xor.{_⊕_, xorBelow}
-use Rattle.automata.specs.Automaton.{Automaton, accepts, odd}
+use Rattle.automata.specs.Automaton.{Automaton, accepts}
 use Rattle.automata.specs.Language.{Language}
 use Rattle.automata.specs.Row.{acceptsFrom, rowAccepts}
 use Rattle.automata.specs.Operations.{joined}
-use Rattle.automata.specs.Count.{Count}
-use Rattle.automata.specs.Cuts.{after, Cut, cutCount, concatenation}
+use Rattle.automata.specs.Cuts.{after, concatenation}
 use Rattle.automata.specs.Operations.{ends, concatenationOf}
 use Rattle.automata.proofs.Xor.{xor-cong, xor-none, xor-false, xor-comm, xor-append, xor-scale}
 use Rattle.automata.proofs.Acceptance.{from-nil, from-cons, accepts-row}
 use Rattle.automata.proofs.Operations.{joined-low, joined-high}
-use Rattle.automata.proofs.Count.{count-unique}
-use Rattle.automata.proofs.Cuts.{cut-count}
 use Rattle.automata.proofs.Concatenation.{concatenation-nil, concatenation-cons, concatenation-left, concatenation-linear}
 
 -- A row ends a word exactly if it accepts the empty word.
@@ -104,7 +101,3 @@ module _ (A B : Automaton) where
       accepts-row (concatenationOf A B) w
       ∙ from-row (A .initial) w (from-low w)
       ∙ concatenation-left (rowAccepts A (A .initial)) (accepts A) (accepts B) w (λ u. sym (accepts-row A u))
-
-  -- However the cuts are counted.
-  pub concatenation-accepts-odd : (w : List ℕ) (n : ℕ) → Count (Cut (accepts A) (accepts B) w) n → accepts (concatenationOf A B) w ≡ odd n
-  concatenation-accepts-odd w n c = accepts-concatenation w ∙ ap odd (count-unique (cutCount (accepts A) (accepts B) w) n (cut-count (accepts A) (accepts B) w) c)

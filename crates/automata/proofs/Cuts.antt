@@ -6,12 +6,12 @@ use mathlib.Core.List.{List, [], _∷_, _++_}
 use Prim.Native.Nat.{ℕ, zero, suc, _+_}
 use native.Mathlib.Omega.{arith}
 use lib.ListN.{length, take, drop}
-use Rattle.automata.specs.Automaton.{sumBelow}
+use Rattle.automata.specs.Automaton.{sumBelow, odd}
 use Rattle.automata.specs.Language.{Language}
 use Rattle.automata.specs.Count.{Count}
-use Rattle.automata.specs.Cuts.{after, Cut, cutCount, joinAll, AllIn, Pieces, restCount, starCount}
+use Rattle.automata.specs.Cuts.{after, Cut, cutCount, concatenation, joinAll, AllIn, Pieces, restCount, starCount, star}
 use Rattle.automata.proofs.Span.{and-parts}
-use Rattle.automata.proofs.Count.{count-same, count-one, count-when, count-both, count-image}
+use Rattle.automata.proofs.Count.{count-unique, count-same, count-one, count-when, count-both, count-image}
 
 -- ---- concatenation
 
@@ -82,6 +82,10 @@ cut-count K L [] = subst (Count (Cut K L [])) (sym (cuts-nil K L)) (count-same (
 cut-count K L (l ∷ w) = subst (Count (Cut K L (l ∷ w))) (sym (cuts-cons K L l w))
     (count-both (front-cut K L (l ∷ w)) (further-cut K L l w) (λ c h. cut-cases K L l w (c .0) (c .1) h) (cut-apart K L l w)
     (front-count K L (l ∷ w)) (further-count K L l w (cutCount (after l K) L w) (cut-count (after l K) L w)))
+
+-- Whatever counts the cuts: the concatenation has the words for which the number is odd.
+pub concatenation-odd : (K L : Language) (w : List ℕ) (n : ℕ) → Count (Cut K L w) n → concatenation K L w ≡ odd n
+concatenation-odd K L w n c = ap odd (count-unique (cutCount K L w) n (cut-count K L w) c)
 
 -- ---- star
 
@@ -191,3 +195,7 @@ module _ (L : Language) where
       from [] h = tt
       from ([] ∷ ps) h = absurd (false≢true (sym e ∙ h .0))
       from ((x ∷ p) ∷ ps) h = (h .0, from ps (h .1))
+
+  -- Whatever counts the cuts.
+  pub star-odd : L [] ≡ false → (w : List ℕ) (n : ℕ) → Count (Pieces L w) n → star L w ≡ odd n
+  star-odd e w n c = ap odd (count-unique (starCount L w) n (star-count e w) c)

@@ -4,17 +4,14 @@ use mathlib.Core.Bool.{Bool, true, false, _&&_, and-true, and-assoc}
 use mathlib.Core.List.{List, [], _∷_}
 use Prim.Native.Nat.{ℕ, _+_, _<_}
 use Rattle.automata.specs.Xor.{_⊕_}
-use Rattle.automata.specs.Automaton.{Automaton, accepts, odd}
+use Rattle.automata.specs.Automaton.{Automaton, accepts}
 use Rattle.automata.specs.Row.{acceptsFrom, rowAccepts, times}
 use Rattle.automata.specs.Operations.{joined}
-use Rattle.automata.specs.Count.{Count}
-use Rattle.automata.specs.Cuts.{after, concatenation, Pieces, starCount, star}
+use Rattle.automata.specs.Cuts.{after, concatenation, star}
 use Rattle.automata.specs.Operations.{starOf}
 use Rattle.automata.proofs.Xor.{xor-cong, xor-none, xor-false, xor-comm, xor-append, xor-coef, xor-scale}
 use Rattle.automata.proofs.Acceptance.{from-nil, from-cons, accepts-row, accepts-append}
 use Rattle.automata.proofs.Operations.{joined-low, joined-high}
-use Rattle.automata.proofs.Count.{count-unique}
-use Rattle.automata.proofs.Cuts.{star-count}
 use Rattle.automata.proofs.Concatenation.{concatenation-nil, concatenation-cons, concatenation-left, concatenation-linear, concatenation-scale, concatenation-sum-left}
 use Rattle.automata.proofs.Star.{star-cons}
 
@@ -94,7 +91,3 @@ module _ (A : Automaton) where
       ∙ xor-append (A .states) 1 (λ i. starOf A .initial i && acceptsFrom (starOf A) w i)
       ∙ ap₂ _⊕_ (xor-none (A .states) (λ i p. ap (λ b. b && acceptsFrom (starOf A) w i) (joined-low (A .states) (λ i. false) (λ i. true) i p)))
       (ap (λ b. b && acceptsFrom (starOf A) w (A .states + 0)) (joined-high (A .states) (λ i. false) (λ i. true) 0) ∙ from-new w)
-
-  -- However the cuts are counted, where A does not accept the empty word.
-  pub star-accepts-odd : accepts A [] ≡ false → (w : List ℕ) (n : ℕ) → Count (Pieces (accepts A) w) n → accepts (starOf A) w ≡ odd n
-  star-accepts-odd e w n c = accepts-star w ∙ ap odd (count-unique (starCount (accepts A) w) n (star-count (accepts A) e w) c)

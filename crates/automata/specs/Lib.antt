@@ -1,4 +1,5 @@
--- What a reader must believe: Xor to Fields. Row, Reduction and Tree are for the contracts of inner functions.
+-- What a reader must believe: Xor to Fields, and of Row `times`, by which `starOf` is defined. Row, Reduction and Tree are for the contracts
+-- of inner functions.
 pub mod Xor
 pub mod Automaton
 pub mod Word

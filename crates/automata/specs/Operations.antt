@@ -1,11 +1,11 @@
 -- Automata for the operations on languages (01: sum, meet, complement, mirror; 02, Note 2: product, star).
---   sumOf A B          the two side by side, the direct sum: accepts the symmetric difference
---   meetOf A B         the product automaton on pairs of states: accepts the intersection
---   complementOf A     A beside one state that accepts every word
---   mirrorOf A         the transpose, initial and final states exchanged: accepts the reversal
---   concatenationOf A B    A, then B: accepts the concatenation
---   starOf A           A beside one state more: accepts the star
---   stateless          the automaton with no states: accepts no word
+--   sumOf A B              the two side by side, the direct sum: accepts the symmetric difference
+--   meetOf A B             the product automaton on pairs of states: accepts the intersection
+--   complementOf A         A beside one state that accepts every word
+--   mirrorOf A             the transpose, initial and final states exchanged: accepts the reversal
+--   concatenationOf A B    A, and B wherever A ends a word: accepts the concatenation
+--   starOf A               A and one state more: accepts the star
+--   stateless              the automaton with no states: accepts no word
 use mathlib.Core.Bool.{Bool, true, false, _&&_, cond}
 use Prim.Native.Nat.{ℕ, _+_, _-_, _*_, _/_, _%_}
 use lib.Dec.{ltb}

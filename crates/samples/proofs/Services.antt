@@ -36,7 +36,7 @@ use Rattle.compare.proofs.Claims.{side-named}
 use Rattle.results.specs.Results.{resultOf}
 use Rattle.operations.specs.Operations.{sumOutcome, unaryOutcome}
 use Rattle.intersection.specs.Meet.{maxProduct, crossing, meetOutcome}
-use Rattle.star.specs.Star.{lacking, starOutcome}
+use Rattle.star.specs.Star.{refusingEmpty, starOutcome}
 use Rattle.samples.specs.Claims.{Task, minimal, sum, meet, inverse, mirror, repetition, lettersFor, Claim, accepted, rejected, paths, speaks, gives, differ}
 use Rattle.samples.specs.Answers.{automatonFor, outcomeOf, verdict, DiffersBy, Returned}
 use Rattle.samples.proofs.Data.{Passed, good, good-true, both, both-true, word-true}
@@ -107,8 +107,8 @@ outcome (mirror bs) r n d p room = ap (λ c. checked c 1 (resultOf (lettersOf bs
 outcome (repetition bs) r n d p room =
     let rest : Outcome = resultOf (lettersOf bs) (automatonFor (repetition bs)) room in
     let t = and-parts (good (checkOf bs)) (not (accepts (automatonOf bs) [])) (p .0) in
-    ap (λ c. checked c 1 (lacking (accepts (automatonOf bs) []) rest)) (good-true (checkOf bs) (t .0))
-    ∙ ap (λ b. lacking b rest) (not-true (accepts (automatonOf bs) []) (t .1))
+    ap (λ c. checked c 1 (refusingEmpty (accepts (automatonOf bs) []) rest)) (good-true (checkOf bs) (t .0))
+    ∙ ap (λ b. refusingEmpty b rest) (not-true (accepts (automatonOf bs) []) (t .1))
     ∙ result (repetition bs) r n d p room
 
 -- ---- the comparison

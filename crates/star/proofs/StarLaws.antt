@@ -24,7 +24,7 @@ use Rattle.results.specs.Built.{Built}
 use Rattle.results.proofs.BuiltLaws.{held-words}
 use Rattle.results.proofs.ResultLaws.{result-number, answer-refused, Promises, Service, service-of}
 use Rattle.results.proofs.Passed.{sizes, checked-refused}
-use Rattle.star.specs.Star.{lacking, starOutcome, starWords, Lacks, GivesStar}
+use Rattle.star.specs.Star.{refusingEmpty, starOutcome, starWords, LacksEmpty, GivesStar}
 
 -- What a table's machine says of the empty word is what its record says.
 pub empty-held : (bs t : List ℕ) (g : Machine) → Holds bs t g → languageOf bs [] ≡ ends (automatonIn t g) (automatonIn t g .initial)
@@ -43,28 +43,28 @@ module _ (bs : List ℕ) where
 
     pub star-empty : WellFormed bs → languageOf bs [] ≡ true → starOutcome bs room ≡ refused 14 1 0
     unfolding starOutcome
-    star-empty good e = ap (λ c. checked c 1 (lacking (languageOf bs []) result)) good ∙ ap (λ b. lacking b result) e
+    star-empty good e = ap (λ c. checked c 1 (refusingEmpty (languageOf bs []) result)) good ∙ ap (λ b. refusingEmpty b result) e
 
-    star-lacks : Lacks bs → starOutcome bs room ≡ result
+    star-lacks : LacksEmpty bs → starOutcome bs room ≡ result
     unfolding starOutcome
-    star-lacks p = ap (λ c. checked c 1 (lacking (languageOf bs []) result)) (p .0) ∙ ap (λ b. lacking b result) (p .1)
+    star-lacks p = ap (λ c. checked c 1 (refusingEmpty (languageOf bs []) result)) (p .0) ∙ ap (λ b. refusingEmpty b result) (p .1)
 
-    star-wrote : (out : List ℕ) → starOutcome bs room ≡ wrote out → Lacks bs
+    star-wrote : (out : List ℕ) → starOutcome bs room ≡ wrote out → LacksEmpty bs
     unfolding starOutcome
-    star-wrote out e = let t = checked-wrote (checkOf bs) 1 (lacking (languageOf bs []) result) out e in (t .0, go (languageOf bs []) (t .1))
+    star-wrote out e = let t = checked-wrote (checkOf bs) 1 (refusingEmpty (languageOf bs []) result) out e in (t .0, go (languageOf bs []) (t .1))
       where
-        go : (b : Bool) → lacking b result ≡ wrote out → b ≡ false
+        go : (b : Bool) → refusingEmpty b result ≡ wrote out → b ≡ false
         go true q = let z : _≡_ {A = ℕ} 0 1 = cc in absurd (omega arith)
         go false q = refl
 
     -- A refusal that names no record comes after the check and row 14.
-    star-passed : (number k : ℕ) → starOutcome bs room ≡ refused number 0 k → Lacks bs
+    star-passed : (number k : ℕ) → starOutcome bs room ≡ refused number 0 k → LacksEmpty bs
     unfolding starOutcome
     star-passed number k e =
-        let good = checked-refused (checkOf bs) (lacking (languageOf bs []) result) number k e in
-        (good, go (languageOf bs []) (sym (ap (λ c. checked c 1 (lacking (languageOf bs []) result)) good) ∙ e))
+        let good = checked-refused (checkOf bs) (refusingEmpty (languageOf bs []) result) number k e in
+        (good, go (languageOf bs []) (sym (ap (λ c. checked c 1 (refusingEmpty (languageOf bs []) result)) good) ∙ e))
       where
-        go : (b : Bool) → lacking b result ≡ refused number 0 k → b ≡ false
+        go : (b : Bool) → refusingEmpty b result ≡ refused number 0 k → b ≡ false
         go true q = let z : _≡_ {A = ℕ} 1 0 = cc in absurd (omega arith)
         go false q = refl
 
@@ -73,11 +73,11 @@ module _ (bs : List ℕ) where
     unfolding starOutcome
     star-fourteen which place e = first (checkOf bs) refl e
       where
-        second : (b : Bool) → lacking b result ≡ refused 14 which place → b ≡ true
+        second : (b : Bool) → refusingEmpty b result ≡ refused 14 which place → b ≡ true
         second true q = refl
         second false q = absurd (let z = result-number (lettersOf bs) (starOf (automatonOf bs)) room 14 which place q .1 in omega arith)
 
-        first : (c : Checked) → checkOf bs ≡ c → checked c 1 (lacking (languageOf bs []) result) ≡ refused 14 which place → (c ≡ Good) × (languageOf bs [] ≡ true)
+        first : (c : Checked) → checkOf bs ≡ c → checked c 1 (refusingEmpty (languageOf bs []) result) ≡ refused 14 which place → (c ≡ Good) × (languageOf bs [] ≡ true)
         first Good h q = (refl, second (languageOf bs []) q)
         first (Wrong number p) h q =
             let z : number ≡ 14 = cc in
@@ -85,15 +85,15 @@ module _ (bs : List ℕ) where
 
   -- ---- the claims
 
-  star-service : (buf : List ℕ) → Service (lettersOf bs) (starWords bs) (Lacks bs) buf (starOutcome bs (length buf))
-  star-service buf = service-of (lettersOf bs) (starWords bs) (starOf (automatonOf bs)) (λ w ow. sym (accepts-star (automatonOf bs) w)) (Lacks bs) (λ p. sizes bs (p .0)) buf (starOutcome bs (length buf))
+  star-service : (buf : List ℕ) → Service (lettersOf bs) (starWords bs) (LacksEmpty bs) buf (starOutcome bs (length buf))
+  star-service buf = service-of (lettersOf bs) (starWords bs) (starOf (automatonOf bs)) (λ w ow. sym (accepts-star (automatonOf bs) w)) (LacksEmpty bs) (λ p. sizes bs (p .0)) buf (starOutcome bs (length buf))
       (star-lacks (length buf)) (star-wrote (length buf)) (star-passed (length buf) 11)
 
   -- Row 14 beside the promises that every operation has.
   abbrev Promised : List ℕ → List ℕ → Written → Type 0
   Promised buf exit r = (r ≡ answerIn (starOutcome bs) buf) × ((exit ≡ bufferIn (starOutcome bs) buf) × GivesStar bs exit r)
 
-  with-fourteen : (buf exit : List ℕ) (r : Written) → Promises (lettersOf bs) (starWords bs) (Lacks bs) (starOutcome bs (length buf)) buf exit r → Promised buf exit r
+  with-fourteen : (buf exit : List ℕ) (r : Written) → Promises (lettersOf bs) (starWords bs) (LacksEmpty bs) (starOutcome bs (length buf)) buf exit r → Promised buf exit r
   with-fourteen buf exit r p = (
     p .0,
     (
@@ -109,6 +109,6 @@ module _ (bs : List ℕ) where
   pub star-refuses : (buf : List ℕ) (number which place : ℕ) (r : Written) → starOutcome bs (length buf) ≡ refused number which place → r ≡ Refused number which place → Promised buf buf r
   star-refuses buf number which place r e answer = with-fourteen buf buf r (star-service buf .0 number which place r e answer)
 
-  pub star-gives : (buf t : List ℕ) (m : Machine) (exit : List ℕ) (r : Written) → Lacks bs → Built (lettersOf bs) (starWords bs) t m
+  pub star-gives : (buf t : List ℕ) (m : Machine) (exit : List ℕ) (r : Written) → LacksEmpty bs → Built (lettersOf bs) (starWords bs) t m
       → r ≡ answerIn (resultOf (m .letters) (automatonIn t m)) buf → exit ≡ bufferIn (resultOf (m .letters) (automatonIn t m)) buf → Promised buf exit r
   star-gives buf t m exit r p B answer buffer = with-fourteen buf exit r (star-service buf .1 t m exit r p B answer buffer)
