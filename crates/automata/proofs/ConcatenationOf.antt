@@ -16,12 +16,8 @@ use Rattle.automata.proofs.Operations.{joined-low, joined-high}
 use Rattle.automata.proofs.Concatenation.{concatenation-nil, concatenation-cons, concatenation-left, concatenation-linear}
 
 -- A row ends a word exactly if it accepts the empty word.
-pub ends-row : (A : Automaton) (r : ℕ → Bool) → ends A r ≡ rowAccepts A r []
+ends-row : (A : Automaton) (r : ℕ → Bool) → ends A r ≡ rowAccepts A r []
 ends-row A r = xor-cong (A .states) (λ k p. ap (λ b. r k && b) (sym (from-nil A k)))
-
--- An automaton accepts the empty word exactly if an odd number of states is both initial and final.
-pub accepts-nil : (A : Automaton) → accepts A [] ≡ ends A (A .initial)
-accepts-nil A = accepts-row A [] ∙ sym (ends-row A (A .initial))
 
 -- ---- the cuts after the first letter
 

@@ -1,4 +1,4 @@
--- The number of cuts is the number of cuts: of pairs of words for the concatenation, of lists of words for the star.
+-- Each number of cuts counts what it should: pairs of words for the concatenation, lists of words for the star.
 use mathlib.Core.Path.{_≡_, refl, sym, ap, ap₂, subst, _∙_}
 use mathlib.Core.Bool.{Bool, true, false, _&&_, cond, false≢true}
 use mathlib.Core.Logic.{_⊎_, inl, inr}
@@ -15,7 +15,7 @@ use Rattle.automata.proofs.Count.{count-unique, count-same, count-one, 
 
 -- ---- concatenation
 
-pub sum-first : (k : ℕ) (f : ℕ → ℕ) → sumBelow (suc k) f ≡ f 0 + sumBelow k (λ i. f (suc i))
+sum-first : (k : ℕ) (f : ℕ → ℕ) → sumBelow (suc k) f ≡ f 0 + sumBelow k (λ i. f (suc i))
 sum-first zero f = omega arith
 sum-first (suc k) f = omega (arith, sum-first k f)
 
@@ -26,12 +26,16 @@ cuts-nil K L = omega arith
 pub cuts-cons : (K L : Language) (l : ℕ) (w : List ℕ) → cutCount K L (l ∷ w) ≡ cond (K [] && L (l ∷ w)) 1 0 + cutCount (after l K) L w
 cuts-cons K L l w = sum-first (suc (length w)) (λ i. cond (K (take i (l ∷ w)) && L (drop i (l ∷ w))) 1 0)
 
-and-both : (x y : Bool) → x ≡ true → y ≡ true → x && y ≡ true
-and-both x y p q = ap₂ _&&_ p q
-
 nil-parts : (u v : List ℕ) → u ++ v ≡ [] → (u ≡ []) × (v ≡ [])
 nil-parts [] v e = (refl, e)
 nil-parts (x ∷ u) v e = let z : _≡_ {A = ℕ} 0 1 = cc in absurd (omega arith)
+
+-- Two cuts that the same letter is put in front of.
+behind-same : {Y : Type 0} (l : ℕ) (b d : List ℕ × Y) → _≡_ {A = List ℕ × Y} (l ∷ b .0, b .1) (l ∷ d .0, d .1) → b ≡ d
+behind-same l b d e = ap₂ (λ u v. (u, v)) (tails (b .0) (d .0) (ap (λ c. c .0) e)) (ap (λ c. c .1) e)
+  where
+    tails : (u v : List ℕ) → l ∷ u ≡ l ∷ v → u ≡ v
+    tails u v f = cc
 
 -- The cut before the first letter, and the cuts after it.
 abbrev Front : Language → Language → List ℕ → List ℕ × List ℕ → Type 0
@@ -50,16 +54,10 @@ further-cut : (K L : Language) (l : ℕ) (w : List ℕ) (c : List ℕ × List �
 further-cut K L l w c h = subst (Cut K L (l ∷ w)) (sym (h .1)) (ap (λ u. l ∷ u) (h .2 .0), h .2 .1, h .2 .2)
 
 further-count : (K L : Language) (l : ℕ) (w : List ℕ) (n : ℕ) → Count (Cut (after l K) L w) n → Count (Further K L l w) n
-further-count K L l w n c = count-image (λ b. (l ∷ b .0, b .1)) (λ b d e. same b d e) (λ b h. (b, refl, h)) (λ c h. h) c
-  where
-    same : (b d : List ℕ × List ℕ) → _≡_ {A = List ℕ × List ℕ} (l ∷ b .0, b .1) (l ∷ d .0, d .1) → b ≡ d
-    same b d e = ap₂ (λ u v. (u, v)) (tails (b .0) (d .0) (ap (λ c. c .0) e)) (ap (λ c. c .1) e)
-      where
-        tails : (u v : List ℕ) → l ∷ u ≡ l ∷ v → u ≡ v
-        tails u v f = cc
+further-count K L l w n c = count-image (λ b. (l ∷ b .0, b .1)) (behind-same l) (λ b h. (b, refl, h)) (λ c h. h) c
 
 cut-cases : (K L : Language) (l : ℕ) (w u v : List ℕ) → Cut K L (l ∷ w) (u, v) → Front K L (l ∷ w) (u, v) ⊎ Further K L l w (u, v)
-cut-cases K L l w [] v h = inl (and-both (K []) (L (l ∷ w)) (h .1) (ap L (sym (h .0)) ∙ h .2), ap (λ x. ([], x)) (h .0))
+cut-cases K L l w [] v h = inl (ap₂ _&&_ (h .1) (ap L (sym (h .0)) ∙ h .2), ap (λ x. ([], x)) (h .0))
 cut-cases K L l w (x ∷ u) v h =
     let e : x ≡ l = cc in
     let f : u ++ v ≡ w = cc in
@@ -78,7 +76,7 @@ cut-count K L [] = subst (Count (Cut K L [])) (sym (cuts-nil K L)) (count-same (
     from : (c : List ℕ × List ℕ) → Cut K L [] c → Front K L [] c
     from c h =
         let e = nil-parts (c .0) (c .1) (h .0) in
-        (and-both (K []) (L []) (ap K (sym (e .0)) ∙ h .1) (ap L (sym (e .1)) ∙ h .2), ap₂ (λ u v. (u, v)) (e .0) (e .1))
+        (ap₂ _&&_ (ap K (sym (e .0)) ∙ h .1) (ap L (sym (e .1)) ∙ h .2), ap₂ (λ u v. (u, v)) (e .0) (e .1))
 cut-count K L (l ∷ w) = subst (Count (Cut K L (l ∷ w))) (sym (cuts-cons K L l w))
     (count-both (front-cut K L (l ∷ w)) (further-cut K L l w) (λ c h. cut-cases K L l w (c .0) (c .1) h) (cut-apart K L l w)
     (front-count K L (l ∷ w)) (further-count K L l w (cutCount (after l K) L w) (cut-count (after l K) L w)))
@@ -131,13 +129,7 @@ module _ (L : Language) where
       omega arith
 
   goes-on-count : (K : Language) (l : ℕ) (w : List ℕ) (n : ℕ) → Count (Rest (after l K) L w) n → Count (GoesOn K L l w) n
-  goes-on-count K l w n c = count-image (λ b. (l ∷ b .0, b .1)) same (λ b h. (b, refl, h)) (λ c h. h) c
-    where
-      same : (b d : List ℕ × List (List ℕ)) → _≡_ {A = List ℕ × List (List ℕ)} (l ∷ b .0, b .1) (l ∷ d .0, d .1) → b ≡ d
-      same b d e = ap₂ (λ u v. (u, v)) (tails (b .0) (d .0) (ap (λ c. c .0) e)) (ap (λ c. c .1) e)
-        where
-          tails : (u v : List ℕ) → l ∷ u ≡ l ∷ v → u ≡ v
-          tails u v f = cc
+  goes-on-count K l w n c = count-image (λ b. (l ∷ b .0, b .1)) (behind-same l) (λ b h. (b, refl, h)) (λ c h. h) c
 
   cons-same : (l : ℕ) (u v : List ℕ) (ps qs : List (List ℕ)) → (l ∷ u) ∷ ps ≡ (l ∷ v) ∷ qs → (u ≡ v) × (ps ≡ qs)
   cons-same l u v ps qs f = (cc, cc)

@@ -1,10 +1,9 @@
 -- The automaton that is built in a table accepts the concatenation.
-use mathlib.Core.Path.{_≡_, refl, sym, ap, subst, _∙_}
+use mathlib.Core.Path.{_≡_, sym, ap, subst, _∙_}
 use mathlib.Core.List.{List}
 use Prim.Native.Nat.{ℕ, _+_, _-_, _*_, _^_, _<_, _≤_}
 use native.Mathlib.Decide.{decLt}
 use native.Mathlib.Omega.{arith}
-use Rattle.automata.specs.Mask.{bitOf}
 use Rattle.automata.specs.Automaton.{accepts}
 use Rattle.automata.specs.Cuts.{concatenation}
 use Rattle.automata.specs.Minimal.{SameBits}
@@ -15,9 +14,10 @@ use Rattle.rows.specs.declared.Machine.{Machine}
 use Rattle.rows.specs.Row.{width, mask}
 use Rattle.rows.specs.Table.{at}
 use Rattle.rows.specs.Beside.{beside}
-use Rattle.rows.specs.Machine.{autoBy, auto, automatonIn, Bounded, Valid}
+use Rattle.rows.specs.Machine.{auto, automatonIn, Bounded, Valid}
 use Rattle.rows.proofs.BesideLaws.{if-low, if-high, shl-below}
 use Rattle.direct_sum.specs.Filled.{Filled}
+use Rattle.direct_sum.proofs.Filling.{filled-bits}
 use Rattle.results.specs.Built.{Built}
 use Rattle.results.proofs.BuiltLaws.{built}
 use Rattle.concatenation.specs.Opened.{opened, openedRows}
@@ -49,15 +49,8 @@ module _ (a : ℕ) (t v u s : List ℕ) (n f m start : ℕ) (D : Filled a n (ope
     }
 
     concatenation-same-bits : SameBits a (auto s (n + m) (opened n f (start * 2 ^ n) i) (f′ * 2 ^ n)) (concatenationOf (auto t n i f) (auto u m start f′))
-    concatenation-same-bits = record {
-      states = refl;
-      initial = B .initial;
-      final = B .final;
-      step = λ l k j hl hk hj. ap (λ v. bitOf v j) (row-is l k hl hk) ∙ B .step l k j hl hk hj;
-    }
-      where
-        B : SameBits a (autoBy (beside (openedRows n f (start * 2 ^ n) (at t)) (at u) n) (n + m) (opened n f (start * 2 ^ n) i) (f′ * 2 ^ n)) (concatenationOf (auto t n i f) (auto u m start f′))
-        B = concatenation-bits a (at t) n f (at u) m start (ok .rows) i f′ (ok .initial)
+    concatenation-same-bits = filled-bits a (n + m) (beside (openedRows n f (start * 2 ^ n) (at t)) (at u) n) s (opened n f (start * 2 ^ n) i) (f′ * 2 ^ n) (concatenationOf (auto t n i f) (auto u m start f′))
+        (record { rows = row-is; size = S .size }) (concatenation-bits a (at t) n f (at u) m start (ok .rows) i f′ (ok .initial))
 
 module _ (t v u s : List ℕ) (g h : Machine) (ok : Valid t g) (ok′ : Bounded (g .letters) u (h .states) (mask (h .initial)) (mask (h .finals))) (x : ℕ) (ex : x ≡ mask (h .initial) * 2 ^ g .states)
     (D : Filled (g .letters) (g .states) (openedRows (g .states) (mask (g .finals)) x (at t)) v)

@@ -1,14 +1,18 @@
--- A table filled row by row.
-use mathlib.Core.Path.{_≡_, _∙_}
+-- A table filled row by row, and the automaton in it.
+use mathlib.Core.Path.{_≡_, ap, _∙_}
 use mathlib.Core.List.{List}
 use Prim.Native.Nat.{ℕ, _+_, _<_, _≤_}
 use native.Mathlib.Nat.{not-suc-le-zero}
 use native.Mathlib.Numerals.{add-one}
 use native.Mathlib.Omega.{arith}
 use lib.ListN.{length}
+use Rattle.automata.specs.Automaton.{Automaton}
+use Rattle.automata.specs.Mask.{bitOf}
+use Rattle.automata.specs.Minimal.{SameBits}
 use Rattle.automata.proofs.Below.{up-to}
 use Rattle.rows.specs.Row.{width}
 use Rattle.rows.specs.Table.{blocks, size, at, stored}
+use Rattle.rows.specs.Machine.{autoBy, auto}
 use Rattle.rows.proofs.TableLaws.{length-stored, stored-same, stored-block, stored-row}
 use Rattle.direct_sum.specs.Filled.{Filled}
 
@@ -37,3 +41,12 @@ filling-end l n f s F = rw add-one (record {
 
 pub filled-none : (n : ℕ) (f : ℕ → ℕ → ℕ) (s : List ℕ) → length s ≡ size → Filled 0 n f s
 filled-none n f s h = record { rows = λ l i p. absurd (not-suc-le-zero p); size = h }
+
+-- The automaton in a filled table has the bits that the automaton of its rows has.
+pub filled-bits : (a n : ℕ) (f : ℕ → ℕ → ℕ) (s : List ℕ) (x y : ℕ) (C : Automaton) → Filled a n f s → SameBits a (autoBy f n x y) C → SameBits a (auto s n x y) C
+filled-bits a n f s x y C S B = record {
+  states = B .states;
+  initial = B .initial;
+  final = B .final;
+  step = λ l k j hl hk hj. ap (λ v. bitOf v j) (S .rows l k hl hk) ∙ B .step l k j hl hk hj;
+}

@@ -8,18 +8,18 @@ use native.Mathlib.Numerals.{add-one}
 use native.Mathlib.Omega.{arith}
 use lib.ListN.{length}
 use lib.Bits.{bitXor}
-use Rattle.automata.specs.Mask.{bitOf}
 use Rattle.automata.specs.Minimal.{SameBits}
 use Rattle.automata.specs.Operations.{sumOf}
 use Rattle.automata.proofs.Below.{up-to}
 use Rattle.rows.specs.Row.{width}
 use Rattle.rows.specs.Table.{blocks, size, at, stored}
 use Rattle.rows.specs.Beside.{beside}
-use Rattle.rows.specs.Machine.{autoBy, auto, Bounded}
+use Rattle.rows.specs.Machine.{auto, Bounded}
 use Rattle.rows.proofs.TableLaws.{length-stored, stored-same, stored-block, stored-row}
 use Rattle.rows.proofs.BesideLaws.{if-low, if-high}
 use Rattle.rows.proofs.DirectSum.{pair-lt, beside-lt, beside-bits}
 use Rattle.direct_sum.specs.Filled.{Joined, Filled, ChangedUpTo}
+use Rattle.direct_sum.proofs.Filling.{filled-bits}
 use Rattle.direct_sum.proofs.Changing.{up-to-step}
 
 -- ---- one block
@@ -64,12 +64,5 @@ module _ (a : ℕ) (t : List ℕ) (n i f : ℕ) (u : List ℕ) (m i′ f′ : �
   }
 
   pub sum-bits : SameBits a (auto s (n + m) (bitXor i (i′ * 2 ^ n)) (bitXor f (f′ * 2 ^ n))) (sumOf (auto t n i f) (auto u m i′ f′))
-  sum-bits = record {
-    states = refl;
-    initial = B .initial;
-    final = B .final;
-    step = λ l k j hl hk hj. ap (λ v. bitOf v j) (S .rows l k hl hk) ∙ B .step l k j hl hk hj;
-  }
-    where
-      B : SameBits a (autoBy (beside (at t) (at u) n) (n + m) (bitXor i (i′ * 2 ^ n)) (bitXor f (f′ * 2 ^ n))) (sumOf (auto t n i f) (auto u m i′ f′))
-      B = beside-bits a (at t) n (at u) m (ok .rows) i f i′ f′ (ok .initial) (ok .finals)
+  sum-bits = filled-bits a (n + m) (beside (at t) (at u) n) s (bitXor i (i′ * 2 ^ n)) (bitXor f (f′ * 2 ^ n)) (sumOf (auto t n i f) (auto u m i′ f′)) S
+      (beside-bits a (at t) n (at u) m (ok .rows) i f i′ f′ (ok .initial) (ok .finals))

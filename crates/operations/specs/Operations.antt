@@ -79,8 +79,11 @@ abbrev pub binaryLanguage : Binary → Language → Language → Language
 binaryLanguage Sum K L = symmetricDifference K L
 binaryLanguage Product K L = concatenation K L
 
+abbrev pub binaryWords : Binary → List ℕ → List ℕ → Language
+binaryWords k bs cs = binaryLanguage k (languageOf bs) (languageOf cs)
+
 abbrev pub Combines : Binary → List ℕ → List ℕ → List ℕ → Written → Type 0
-Combines k bs cs exit r = Gives (lettersOf bs) (binaryLanguage k (languageOf bs) (languageOf cs)) (Operands bs cs) exit r
+Combines k bs cs exit r = Gives (lettersOf bs) (binaryWords k bs cs) (Operands bs cs) exit r
 
 -- The minimal record of the words over the letters that the record does not accept.
 abbrev pub Complements : List ℕ → List ℕ → Written → Type 0

@@ -12,7 +12,7 @@ ghost use Rattle.record.specs.Outcome.{answerIn, bufferIn};
 ghost use Rattle.record.specs.Claims.{Operands};
 ghost use Rattle.operands.specs.Meant.{asMeant};
 ghost use Rattle.results.specs.Built.{heldWords, Built};
-ghost use Rattle.operations.specs.Operations.{sumOutcome, productOutcome, binaryOutcome, binaryLanguage, unaryLanguage, unaryOutcome, complementOutcome, mirrorOutcome, Sums, GivesProduct, Combines, Operates, Complements, Mirrors};
+ghost use Rattle.operations.specs.Operations.{sumOutcome, productOutcome, binaryOutcome, binaryLanguage, binaryWords, unaryLanguage, unaryOutcome, complementOutcome, mirrorOutcome, Sums, GivesProduct, Combines, Operates, Complements, Mirrors};
 use operands::BLANK;
 use operands::Pair;
 use record::Checked;
@@ -92,7 +92,7 @@ fn join(k: Binary, t: &mut Table, g: Machine, u: &Table, h: Machine) -> Machine
 // The same of two well-formed records over the same letters, its rows in s.
 fn join_records(k: Binary, first: &[u8], second: &[u8], s: &mut Table) -> Machine
     requires { ⌜ Operands (now first) (now second) × (length (now s) ≡ size) ⌝ }
-    ensures { λ r. ⌜ Built (lettersOf (now (first .entry))) (binaryLanguage k (languageOf (now (first .entry))) (languageOf (now (second .entry)))) (now (s .exit)) r ⌝ }
+    ensures { λ r. ⌜ Built (lettersOf (now (first .entry))) (binaryWords k (now (first .entry)) (now (second .entry))) (now (s .exit)) r ⌝ }
 {
     let mut u = [0u64; 512];
     let g = codec::read(first, s);

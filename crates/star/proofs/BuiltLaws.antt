@@ -1,11 +1,10 @@
 -- The automaton that is built in a table accepts the star.
-use mathlib.Core.Path.{_≡_, refl, sym, ap, subst, _∙_}
+use mathlib.Core.Path.{_≡_, sym, subst, _∙_}
 use mathlib.Core.List.{List}
 use Prim.Native.Nat.{ℕ, _+_, _^_, _<_, _≤_}
 use native.Mathlib.Nat.{one-mul}
 use native.Mathlib.Omega.{arith}
 use lib.Bits.{bitXor}
-use Rattle.automata.specs.Mask.{bitOf}
 use Rattle.automata.specs.Automaton.{accepts}
 use Rattle.automata.specs.Cuts.{star}
 use Rattle.automata.specs.Minimal.{SameBits}
@@ -16,10 +15,11 @@ use Rattle.automata.proofs.StarOf.{accepts-star}
 use Rattle.rows.specs.declared.Machine.{Machine}
 use Rattle.rows.specs.Row.{width, mask}
 use Rattle.rows.specs.Table.{at}
-use Rattle.rows.specs.Machine.{autoBy, auto, automatonIn, Bounded, Valid}
+use Rattle.rows.specs.Machine.{auto, automatonIn, Bounded, Valid}
 use Rattle.rows.proofs.DirectSum.{pair-lt}
 use Rattle.rows.proofs.BesideLaws.{shl-below}
 use Rattle.direct_sum.specs.Filled.{Filled}
+use Rattle.direct_sum.proofs.Filling.{filled-bits}
 use Rattle.record.specs.Record.{lettersOf, automatonOf}
 use Rattle.record.specs.Held.{Holds}
 use Rattle.results.specs.Built.{Built}
@@ -39,15 +39,7 @@ module _ (a : ℕ) (t s : List ℕ) (n i f : ℕ) (ok : Bounded a t n i f) (S : 
   }
 
   star-same-bits : SameBits a (auto s (n + 1) (2 ^ n) (bitXor f (2 ^ n))) (starOf (auto t n i f))
-  star-same-bits = record {
-    states = refl;
-    initial = B .initial;
-    final = B .final;
-    step = λ l k j hl hk hj. ap (λ v. bitOf v j) (S .rows l k hl hk) ∙ B .step l k j hl hk hj;
-  }
-    where
-      B : SameBits a (autoBy (starRows (at t) n i f) (n + 1) (2 ^ n) (bitXor f (2 ^ n))) (starOf (auto t n i f))
-      B = star-bits a (at t) n i f (ok .rows) (ok .finals)
+  star-same-bits = filled-bits a (n + 1) (starRows (at t) n i f) s (2 ^ n) (bitXor f (2 ^ n)) (starOf (auto t n i f)) S (star-bits a (at t) n i f (ok .rows) (ok .finals))
 
 pub star-built : (t s : List ℕ) (g : Machine) → Valid t g → g .states < width → Filled (g .letters) (g .states + 1) (starRows (at t) (g .states) (mask (g .initial)) (mask (g .finals))) s
     → (r : Machine) → r .letters ≡ g .letters → r .states ≡ g .states + 1 → mask (r .initial) ≡ 2 ^ g .states → mask (r .finals) ≡ bitXor (mask (g .finals)) (2 ^ g .states)

@@ -6,7 +6,7 @@ use Prim.Native.Nat.{ℕ}
 use native.Mathlib.Omega.{arith}
 use lib.ListN.{length}
 use Rattle.automata.specs.Operations.{ends, starOf}
-use Rattle.automata.proofs.ConcatenationOf.{accepts-nil}
+use Rattle.automata.proofs.Acceptance.{accepts-reach}
 use Rattle.automata.proofs.StarOf.{accepts-star}
 use Rattle.rows.specs.declared.Machine.{Machine}
 use Rattle.rows.specs.Machine.{automatonIn}
@@ -26,9 +26,9 @@ use Rattle.results.proofs.ResultLaws.{result-number, answer-refused, Promises, 
 use Rattle.results.proofs.Passed.{sizes, checked-refused}
 use Rattle.star.specs.Star.{refusingEmpty, starOutcome, starWords, LacksEmpty, GivesStar}
 
--- What a table's machine says of the empty word is what its record says.
+-- A record accepts the empty word exactly if an odd number of its states is both initial and final.
 pub empty-held : (bs t : List ℕ) (g : Machine) → Holds bs t g → languageOf bs [] ≡ ends (automatonIn t g) (automatonIn t g .initial)
-empty-held bs t g H = held-words bs t g H [] tt ∙ accepts-nil (automatonIn t g)
+empty-held bs t g H = held-words bs t g H [] tt ∙ accepts-reach (automatonIn t g) []
 
 module _ (bs : List ℕ) where
   -- ---- the cases of the outcome
