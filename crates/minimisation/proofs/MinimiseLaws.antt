@@ -17,7 +17,7 @@ use Rattle.automata.proofs.Fields.{same-fields}
 use Rattle.automata.proofs.Tree.{tree-bits}
 use Rattle.rows.specs.Row.{width}
 use Rattle.rows.specs.Machine.{auto, Bounded}
-use Rattle.rows.proofs.BitLaws.{bit-high, bits-lt}
+use Rattle.rows.proofs.BitLaws.{bits-lt}
 use Rattle.basis.specs.Basis.{cell, bits}
 use Rattle.elimination.specs.Place.{BasisIn}
 use Rattle.transpose.specs.Transposed.{Transposed}
@@ -38,16 +38,14 @@ transposed-bits a n i f t s T = record { states = refl; initial = λ k h. refl; 
 
 -- The basis of the rows that words reach in the mirror is one of the columns.
 explored-columns : (a : ℕ) (t : List ℕ) (n i f : ℕ) (u b : List ℕ) (d p v : ℕ) → Transposed a n t u → Explored a u n f i b d p v → Observed a (auto t n i f) (bitOf p) (bits width b 0)
-explored-columns a t n i f u b d p v T X =
-    observed a (auto t n i f) (auto u n f i) (transposed-bits a n i f t u T) (λ l k j hl hk hj. bit-high n (T .low l k hl hk) j hj)
-    d (X .upto) (bitOf p) (bits width b 1) (bits width b 0) (X .search .coef) (X .search .from) (X .search .by) (X .search .made) (X .search .search) (X .within) (X .enough)
+explored-columns a t n i f u b d p v T X = observed a (auto t n i f) u f i (transposed-bits a n i f t u T) b d p v X
 
 -- Its rows are as short as those that words reach.
 pub explored-low : (a : ℕ) (u : List ℕ) (n i f : ℕ) (b : List ℕ) (d p v : ℕ) → Explored a u n i f b d p v → LowAt n p b
-explored-low a u n i f b d p v X k h e = bits-lt (cell width b 0 k) n (λ j g. F .sum k h e j ∙ xor-none d (λ r q. ap (λ z. X .search .coef k r && z) (F .thin r q j g) ∙ and-false (X .search .coef k r)))
+explored-low a u n i f b d p v X k h e = bits-lt (cell width b 0 k) n (λ j g. F .sum k h e j ∙ xor-none d (λ r q. ap (λ z. X .found .coef k r && z) (F .thin r q j g) ∙ and-false (X .found .coef k r)))
   where
-    F : BasisIn width n d p (X .search .coef) b
-    F = X .search .search .basis
+    F : BasisIn width n d p (X .found .coef) b
+    F = X .found .basis
 
 -- The table t′ holds the folded automaton; s is its reduction.
 pub once : (a : ℕ) (t : List ℕ) (n i f : ℕ) (u b : List ℕ) (d p v : ℕ) (t′ : List ℕ) (r x y : ℕ) (b′ s : List ℕ) (e i′ f′ : ℕ)

@@ -1,90 +1,102 @@
--- The search over the mirror, whole or with as many rows as there are states, finds the columns that words reach.
-use mathlib.Core.Path.{_≡_, sym, ap, subst, _∙_}
-use mathlib.Core.Bool.{Bool, false, _&&_, and-comm}
+-- The search over the mirror, every row tried or as many found as there are states, finds the columns that words reach.
+use mathlib.Core.Path.{_≡_, refl, sym, ap, ap₂, _∙_}
+use mathlib.Core.Bool.{Bool, false, _&&_, and-comm, and-false}
 use mathlib.Core.Logic.{_⊎_, inl, inr}
-use mathlib.Core.List.{List, reverse, reverse-reverse}
+use mathlib.Core.List.{List, [], _∷_}
 use Prim.Native.Nat.{ℕ, _<_, _≤_}
 use native.Mathlib.Decide.{decLt}
-use native.Mathlib.Omega.{arith}
-use Rattle.automata.specs.Xor.{comb}
+use Rattle.automata.specs.Xor.{xorBelow, comb}
 use Rattle.automata.specs.Automaton.{Automaton}
+use Rattle.automata.specs.Mask.{bitOf}
 use Rattle.automata.specs.Minimal.{SameBits}
 use Rattle.automata.specs.Operations.{mirrorOf}
-use Rattle.automata.specs.Row.{acceptsFrom, reach}
-use Rattle.automata.specs.Tree.{Tree, wordTo, wordsTo}
+use Rattle.automata.specs.Row.{acceptsFrom, times}
 use Rattle.automata.specs.Word.{Over}
 use Rattle.automata.proofs.Xor.{xor-cong, xor-none, xor-matrix}
-use Rattle.automata.proofs.Shortlex.{over-reverse}
-use Rattle.automata.proofs.Dependence.{independent-bound}
-use Rattle.automata.proofs.Operations.{mirror-from}
-use Rattle.automata.proofs.Reduction.{reach-spanned}
-use Rattle.automata.proofs.Tree.{tree-over, tree-row, comb-same, tree-reduced, tree-bits}
-use Rattle.elimination.specs.Echelon.{Echelon}
+use Rattle.automata.proofs.Acceptance.{from-nil, from-cons}
+use Rattle.rows.specs.Row.{width}
+use Rattle.rows.specs.Table.{at}
+use Rattle.rows.specs.Product.{product}
+use Rattle.rows.specs.Machine.{auto}
+use Rattle.rows.proofs.ProductLaws.{bit-product}
+use Rattle.basis.specs.Basis.{cell, bits}
+use Rattle.elimination.specs.Place.{BasisIn}
 use Rattle.elimination.proofs.EchelonLaws.{onto-same, onto-fixed}
-use Rattle.reduction.specs.Search.{Search}
-use Rattle.reduction.proofs.Complete.{Completed, finish, finish-count, complete}
+use Rattle.observation.specs.Explore.{along, Spanned, Tried, Explored}
 use Rattle.observation.specs.Observed.{Observed}
+use Rattle.observation.proofs.ExploreLaws.{full-spanned}
 
--- The rows R with their reduced basis are those of a whole search over the mirror, which has them as Q.
-module _ (a : ℕ) (A B : Automaton) (d : ℕ) (P : ℕ → Bool) (R Q E C : ℕ → ℕ → Bool) (from by : ℕ → ℕ) (F : Echelon (A .states) d P R E C)
-    (T : Tree a (mirrorOf A) B d Q from by) (same : (r : ℕ) → r < d → (j : ℕ) → Q r j ≡ R r j) where
+-- The automaton of the table u has the bits of A's mirror.
+module _ (a : ℕ) (A : Automaton) (u : List ℕ) (i f : ℕ) (mirror : SameBits a (auto u (A .states) i f) (mirrorOf A)) where
   abbrev n : ℕ
   n = A .states
 
-  -- The column of a word is the row that the mirror reaches along the reversed word.
-  column : (v : List ℕ) (i : ℕ) → acceptsFrom A v i ≡ reach (mirrorOf A) (A .final) (reverse v) i
-  column v i = mirror-from (mirrorOf A) v i
+  abbrev M : Automaton
+  M = auto u n i f
 
-  coef : List ℕ → ℕ → Bool
-  coef v = reach B (B .initial) (reverse v)
+  -- The row that it reaches along a word, read from its end, is the column of that word.
+  along-column : (w : List ℕ) → Over a w → (j : ℕ) → j < n → along M w j ≡ acceptsFrom A w j
+  along-column [] ow j h = mirror .initial j h ∙ sym (from-nil A j)
+  along-column (l ∷ w) ow j h = xor-cong n (λ k g. ap₂ _&&_ (along-column w (ow .1) k g) (mirror .step l k j (ow .0) g h) ∙ and-comm (acceptsFrom A w k) (A .step l j k)) ∙ sym (from-cons A l w j)
 
-  -- It is an xor of rows found.
-  spanned : (v : List ℕ) → Over a v → (i : ℕ) → i < n → acceptsFrom A v i ≡ comb d (coef v) R i
-  unfolding coef
-  spanned v ov i h =
-      column v i
-      ∙ reach-spanned a (mirrorOf A) B (wordsTo from by d) (tree-reduced a (mirrorOf A) B d Q from by T .spanning) (reverse v) (over-reverse a v ov) i h
-      ∙ comb-same a (mirrorOf A) B d Q from by T (coef v) i h
-      ∙ xor-cong d (λ r p. ap (λ b. coef v r && b) (same r p i))
+  module _ (b : List ℕ) (d p v : ℕ) (X : Explored a u n i f b d p v) where
+    abbrev R : ℕ → ℕ → Bool
+    R = bits width b 1
 
-  -- The word whose column row r is.
-  seen-by : ℕ → List ℕ
-  seen-by r = reverse (wordTo from by r)
+    tried : (k : ℕ) → k < d → Tried a u n b d k
+    tried k h = go (X .enough)
+      where
+        go : ((k : ℕ) → k < d → Tried a u n b d k) ⊎ (d ≡ n) → Tried a u n b d k
+        go (inl T) = T k h
+        go (inr e) = λ l g. full-spanned a u n i f b d p v (X .found) e (bitOf (product n (cell width b 1 k) (at u l)))
 
-  row-column : (r : ℕ) → r < d → (j : ℕ) → j < n → R r j ≡ acceptsFrom A (seen-by r) j
-  unfolding seen-by
-  row-column r h j g = sym (column (seen-by r) j ∙ ap (λ u. reach (mirrorOf A) (A .final) u j) (reverse-reverse (wordTo from by r)) ∙ tree-row a (mirrorOf A) B d Q from by T r h j g ∙ same r h j)
+    -- An xor of rows found, times a letter, is one again.
+    module _ (l : ℕ) (hl : l < a) (y : ℕ → Bool) (S : Spanned n b d y) where
+      coefs : (k : ℕ) → Dec (k < d) → ℕ → Bool
+      coefs k (yes h) = tried k h l hl .coef
+      coefs k (no h) = λ m. false
 
-  whole-observed : Observed a A P E
-  unfolding seen-by
-  whole-observed = record {
-    unit = F .unit;
-    span = λ v ov i h. spanned v ov i h ∙ sym (onto-fixed n d P R E C F (coef v) i) ∙ onto-same n d P R E C F (comb d (coef v) R) (acceptsFrom A v) (λ j g. sym (spanned v ov j g)) i;
-    seen = λ r z j h e.
-        xor-cong n (λ i p. ap (λ b. r i && b) (F .sum j h e i ∙ xor-cong d (λ m q. and-comm (C j m) (R m i))))
-        ∙ xor-matrix n d r (λ i m. R m i) (C j)
-        ∙ xor-none d (λ m p. ap (λ b. b && C j m) (xor-cong n (λ i q. ap (λ b. r i && b) (row-column m p i q)) ∙ z (seen-by m) (over-reverse a (wordTo from by m) (tree-over a (mirrorOf A) B d Q from by T m p))));
-  }
+      row-sum : (k : ℕ) → k < d → (D : Dec (k < d)) → (j : ℕ) → j < n → bitOf (product n (cell width b 1 k) (at u l)) j ≡ comb d (coefs k D) R j
+      unfolding coefs
+      row-sum k h (yes g) j hj = tried k g l hl .sum j hj
+      row-sum k h (no g) j hj = absurd (g h)
 
--- The search before a row, every row before it done, is over the automaton M with the mirror's bits.
-pub observed : (a : ℕ) (A M : Automaton) → SameBits a M (mirrorOf A) → (thin : (l i j : ℕ) → l < a → i < M .states → M .states ≤ j → M .step l i j ≡ false)
-    → (d k : ℕ) (P : ℕ → Bool) (R E C : ℕ → ℕ → Bool) (from by : ℕ → ℕ) (S : ℕ → ℕ → ℕ → Bool)
-    → Search a M d k 0 P R E C from by S → k ≤ d → (k ≡ d) ⊎ (d ≡ M .states) → Observed a A P E
-observed a A M mirror thin d k P R E C from by S G hk stop = go stop (decLt k d)
-  where
-    whole : (K : Completed a M d R from by) → K .count ≡ d → Observed a A P E
-    whole K e = whole-observed a A (K .reduced) d P R (K .all) E C (K .from-all) (K .by-all) (subst (λ n. Echelon n d P R E C) (mirror .states) (G .basis))
-        (tree-bits a (mirrorOf A) M (K .reduced) d (K .all) (K .from-all) (K .by-all) mirror (subst (λ c. Tree a M (K .reduced) c (K .all) (K .from-all) (K .by-all)) e (K .tree))) (K .same)
+      row-short : (k : ℕ) (D : Dec (k < d)) (r : ℕ) → d ≤ r → coefs k D r ≡ false
+      unfolding coefs
+      row-short k (yes g) r h = tried k g l hl .short r h
+      row-short k (no g) r h = refl
 
-    -- Every row is done.
-    ended : k ≡ d → Observed a A P E
-    ended e = let H = subst (λ x. Search a M d x 0 P R E C from by S) e G in whole (finish a M thin d P R E C from by S H) (finish-count a M thin d P R E C from by S H)
+      spanned-times : Spanned n b d (times M l y)
+      spanned-times = record {
+        coef = λ m. xorBelow d (λ k. S .coef k && coefs k (decLt k d) m);
+        short = λ r h. xor-none d (λ k g. ap (λ x. S .coef k && x) (row-short k (decLt k d) r h) ∙ and-false (S .coef k));
+        sum = λ j h.
+            xor-cong n (λ s g. ap (λ x. x && bitOf (at u l s) j) (S .sum s g))
+            ∙ sym (xor-matrix d n (S .coef) R (λ s. bitOf (at u l s) j))
+            ∙ xor-cong d (λ k g. ap (λ x. S .coef k && x) (sym (bit-product n (cell width b 1 k) (at u l) j) ∙ row-sum k g (decLt k d) j h))
+            ∙ xor-matrix d d (S .coef) (λ k. coefs k (decLt k d)) (λ m. R m j);
+      }
 
-    -- No more rows are independent.
-    full : d ≡ M .states → (K : Completed a M d R from by) → Observed a A P E
-    full e K = whole K (omega (arith, K .more, independent-bound (M .states) (K .count) (K .all) (K .tree .independent)))
+    -- So is the row along every word.
+    spanned : (w : List ℕ) → Over a w → Spanned n b d (along M w)
+    spanned [] ow = X .found .start
+    spanned (l ∷ w) ow = spanned-times l (ow .0) (along M w) (spanned w (ow .1))
 
-    go : (k ≡ d) ⊎ (d ≡ M .states) → Dec (k < d) → Observed a A P E
-    go (inl e) h = ended e
-    go (inr e) (yes h) = full e (complete a M thin d k 0 P R E C from by S (omega arith) h G)
-    go (inr e) (no h) = ended (omega arith)
+    pub observed : Observed a A (bitOf p) (bits width b 0)
+    observed = record {
+      unit = F .unit;
+      span = λ v ov j h. column v ov j h ∙ sym (onto-fixed n d (bitOf p) R (bits width b 0) C F (spanned v ov .coef) j) ∙ onto-same n d (bitOf p) R (bits width b 0) C F (comb d (spanned v ov .coef) R) (acceptsFrom A v) (λ k g. sym (column v ov k g)) j;
+      seen = λ r z j h e.
+          xor-cong n (λ k g. ap (λ x. r k && x) (F .sum j h e k ∙ xor-cong d (λ m q. and-comm (C j m) (R m k))))
+          ∙ xor-matrix n d r (λ k m. R m k) (C j)
+          ∙ xor-none d (λ m q. ap (λ x. x && C j m) (xor-cong n (λ k g. ap (λ x. r k && x) (X .found .reached m q k g ∙ along-column (X .found .word m) (X .found .over m q) k g)) ∙ z (X .found .word m) (X .found .over m q)));
+    }
+      where
+        C : ℕ → ℕ → Bool
+        C = X .found .coef
+
+        F : BasisIn width n d p C b
+        F = X .found .basis
+
+        column : (v : List ℕ) (ov : Over a v) (j : ℕ) → j < n → acceptsFrom A v j ≡ comb d (spanned v ov .coef) R j
+        column v ov j h = sym (along-column v ov j h) ∙ spanned v ov .sum j h

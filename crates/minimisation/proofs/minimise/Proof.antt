@@ -27,13 +27,13 @@ fold-requires c κs =
     let x = c .before .before .before .before .explore in
     let r = x .result in
     let X = x .ensures in
-    (s .pre .0, X .search .base, X .search .search .basis .unit, explored-low (m .letters) (u .last .1 .1 .1 .0) (m .states) (mask (m .finals)) (mask (m .initial)) (x .last .1 .1 .0) (r .count) (mask (r .pivots)) (mask (r .used)) X, u .ensures .size)
+    (s .pre .0, X .found .base, X .found .basis .unit, explored-low (m .letters) (u .last .1 .1 .1 .0) (m .states) (mask (m .finals)) (mask (m .initial)) (x .last .1 .1 .0) (r .count) (mask (r .pivots)) (mask (r .used)) X, u .ensures .size)
 
 reduce-requires : tie.Need-reduce-requires
 reduce-requires c κs =
     let k = c .before .before .before .fold in
     let g = k .result in
-    (subst (λ a. Bounded a (k .last .1 .1 .0) (g .states) (mask (g .initial)) (mask (g .finals))) (sym (k .ensures .0)) (k .ensures .1 .bounded), c .before .before .before .before .before .before .before .before .explore .ensures .search .base, k .ensures .2)
+    (subst (λ a. Bounded a (k .last .1 .1 .0) (g .states) (mask (g .initial)) (mask (g .finals))) (sym (k .ensures .0)) (k .ensures .1 .bounded), c .before .before .before .before .before .before .before .before .explore .ensures .found .base, k .ensures .2)
 
 returns : tie.Need-returns
 returns c =

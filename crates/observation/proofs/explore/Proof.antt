@@ -7,7 +7,7 @@ use borrow.Author.Needs.{needs}
 use Rattle.rows.specs.Row.{width, mask}
 use Rattle.elimination.specs.Place.{BasisIn}
 use Rattle.reduction.proofs.TableSearch.{empty-basis, empty-cover}
-use Rattle.observation.proofs.ExploreLaws.{exploring-start}
+use Rattle.observation.proofs.ExploreLaws.{found-start}
 use Rattle.observation.proofs.explore.Statement.{statement}
 use Rattle.observation.proofs.explore.Tie as tie
 
@@ -35,7 +35,7 @@ explore-rows-requires c κs =
     let r = q .result in
     let e = rw (c .before .before .before .none .ensures) at (q .ensures) in
     let P = e none-yet (empty-basis width (m .states) none-yet (a .b .now)) in
-    (s .pre .0, exploring-start (m .letters) (a .t .now) (m .states) (mask (m .initial)) (mask (m .finals)) (a .b .now) (q .last .0) (r .count) (mask (r .pivots)) (mask (r .used)) (s .pre .1) none-yet (P .0) (P .1) (P .2))
+    (s .pre .0, found-start (m .letters) (a .t .now) (m .states) (mask (m .initial)) (mask (m .finals)) (a .b .now) (q .last .0) (r .count) (mask (r .pivots)) (mask (r .used)) (s .pre .1) none-yet (P .0) (P .1) (P .2))
 
 returns : tie.Need-returns
 returns c = search needs
