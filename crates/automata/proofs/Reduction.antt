@@ -1,56 +1,24 @@
--- The reduction of an automaton: every row that a word reaches is an xor of the rows found, the first word accepted is among theirs, and
--- where the automaton is observable on them the result is minimal.
+-- The reduction of an automaton: the first word accepted is among those of the rows found, and where the automaton is observable on these
+-- the result is minimal.
 use mathlib.Core.Path.{_≡_, refl, sym, ap, subst, _∙_}
-use mathlib.Core.Bool.{Bool, true, false, _&&_, and-false}
+use mathlib.Core.Bool.{true, false, _&&_, and-false}
 use mathlib.Core.Logic.{_⊎_, inl, inr}
 use mathlib.Core.List.{List, [], _∷_, _++_, append-nil}
 use Prim.Native.Nat.{ℕ, _<_}
 use native.Mathlib.Decide.{ℕ-discrete, decLt}
 use native.Mathlib.Omega.{arith}
-use lib.Dec.{eqb}
 use lib.ListN.{length, getD}
 use Rattle.automata.specs.Xor.{xorBelow, comb}
 use Rattle.automata.specs.Automaton.{Automaton, accepts}
 use Rattle.automata.specs.Word.{Over, Shortlex, NotAfter}
 use Rattle.automata.specs.Minimal.{Minimal}
-use Rattle.automata.specs.Row.{acceptsFrom, times, reach}
-use Rattle.automata.specs.Reduction.{rowOf, ObservableOn, Spanning, Reduced}
-use Rattle.automata.proofs.Xor.{bool-cases, xor-cong, xor-none, xor-pick, xor-matrix}
+use Rattle.automata.specs.Row.{acceptsFrom, reach}
+use Rattle.automata.specs.Reduction.{rowOf, ObservableOn, Reduced}
+use Rattle.automata.proofs.Xor.{bool-cases, xor-cong, xor-none}
 use Rattle.automata.proofs.Shortlex.{shortlex-irrefl, shortlex-trans}
 use Rattle.automata.proofs.Acceptance.{reach-append, from-nil, accepts-row, accepts-append}
 use Rattle.automata.proofs.ShortWords.{row-linear}
 use Rattle.automata.proofs.Certificate.{not-after-before, Reached, reached, Tableau, Certificate, certified}
-
-module _ (a : ℕ) (A B : Automaton) (ts : List (List ℕ)) (S : Spanning a A B ts) where
-  -- The row r of A is the row c of B in coordinates.
-  Coordinates : (ℕ → Bool) → (ℕ → Bool) → Type 0
-  Coordinates r c = (j : ℕ) → j < A .states → r j ≡ comb (length ts) c (rowOf A ts) j
-
-  start-coordinates : Coordinates (A .initial) (B .initial)
-  unfolding Coordinates
-  start-coordinates j h = go (decLt 0 (length ts)) ∙ xor-cong (length ts) (λ k p. ap (λ b. b && rowOf A ts k j) (sym (S .starts k p)))
-    where
-      go : Dec (0 < length ts) → A .initial j ≡ comb (length ts) (λ k. eqb k 0) (rowOf A ts) j
-      go (yes p) = sym (xor-pick (length ts) 0 p (λ k. rowOf A ts k j) ∙ ap (λ u. reach A (A .initial) u j) (S .first p))
-      go (no p) = S .empty (omega arith) j h ∙ sym (xor-none (length ts) (λ k q. absurd (p (omega arith))))
-
-  step-coordinates : (l : ℕ) → l < a → (r c : ℕ → Bool) → Coordinates r c → Coordinates (times A l r) (times B l c)
-  unfolding Coordinates
-  step-coordinates l hl r c h j hj =
-      xor-cong (A .states) (λ i p. ap (λ b. b && A .step l i j) (h i p))
-      ∙ sym (xor-matrix (length ts) (A .states) c (rowOf A ts) (λ i. A .step l i j))
-      ∙ xor-cong (length ts) (λ k p. ap (λ b. c k && b) (S .rows l k hl p j hj))
-      ∙ xor-matrix (length ts) (length ts) c (B .step l) (λ m. rowOf A ts m j)
-      ∙ xor-cong (length ts) (λ m p. ap (λ n. xorBelow n (λ k. c k && B .step l k m) && rowOf A ts m j) (sym (S .size)))
-
-  reach-coordinates : (w : List ℕ) → Over a w → (r c : ℕ → Bool) → Coordinates r c → Coordinates (reach A r w) (reach B c w)
-  reach-coordinates [] ow r c h = h
-  reach-coordinates (l ∷ w) ow r c h = reach-coordinates w (ow .1) (times A l r) (times B l c) (step-coordinates l (ow .0) r c h)
-
-  -- Every row that a word reaches is an xor of the rows found.
-  pub reach-spanned : (w : List ℕ) → Over a w → (j : ℕ) → j < A .states → reach A (A .initial) w j ≡ comb (length ts) (reach B (B .initial) w) (rowOf A ts) j
-  unfolding Coordinates
-  reach-spanned w ow = reach-coordinates w ow (A .initial) (B .initial) start-coordinates
 
 module _ (a : ℕ) (A B : Automaton) (bs : List (List ℕ)) (R : Reduced a A B bs) where
   pub tableau : Tableau a (accepts A) B bs

@@ -63,7 +63,7 @@ module _ (a : ℕ) (A B : Automaton) (d : ℕ) (R : ℕ → ℕ → Bool) (from 
       go (yes e) ih = subst (λ x. Over a (wordTo from by x)) (sym e) tt
       go (no e) ih = subst (Over a) (sym (word-child r (omega arith) h)) (over-append a (wordTo from by (from r)) (by r ∷ []) (ih (omega (arith, T .parent r (omega arith) h)) (omega (arith, T .parent r (omega arith) h))) (T .letter r (omega arith) h, tt))
 
-  pub tree-over : (r : ℕ) → r < d → Over a (wordTo from by r)
+  tree-over : (r : ℕ) → r < d → Over a (wordTo from by r)
   tree-over r h = word-over (suc r) r (omega arith) h
 
   word-row : (f r : ℕ) → r < f → r < d → (j : ℕ) → j < A .states → reach A (A .initial) (wordTo from by r) j ≡ R r j

@@ -109,7 +109,7 @@ fn meet_meant(first: &[u8], second: &[u8], out: &mut [u8]) -> Written
         };
     }
     let m = product(&t, g, &u, h, &mut s);
-    results::finish(&mut s, m, out)
+    results::finish(&mut s, m, &mut t, out)
 }
 
 // Writes the minimal record of the words that both records accept; a second record of 0 bytes is a blank, the machine with no states over

@@ -89,15 +89,14 @@ fn join(k: Binary, t: &mut Table, g: Machine, u: &Table, h: Machine) -> Machine
     }
 }
 
-// The same of two well-formed records over the same letters, its rows in s.
-fn join_records(k: Binary, first: &[u8], second: &[u8], s: &mut Table) -> Machine
-    requires { ⌜ Operands (now first) (now second) × (length (now s) ≡ size) ⌝ }
-    ensures { λ r. ⌜ Built (lettersOf (now (first .entry))) (binaryWords k (now (first .entry)) (now (second .entry))) (now (s .exit)) r ⌝ }
+// The same of two well-formed records over the same letters, its rows in s. The table u is for work.
+fn join_records(k: Binary, first: &[u8], second: &[u8], s: &mut Table, u: &mut Table) -> Machine
+    requires { ⌜ Operands (now first) (now second) × (length (now s) ≡ size) × (length (now u) ≡ size) ⌝ }
+    ensures { λ r. ⌜ Built (lettersOf (now (first .entry))) (binaryWords k (now (first .entry)) (now (second .entry))) (now (s .exit)) r × (length (now (u .exit)) ≡ size) ⌝ }
 {
-    let mut u = [0u64; 512];
     let g = codec::read(first, s);
-    let h = codec::read(second, &mut u);
-    join(k, s, g, &u, h)
+    let h = codec::read(second, u);
+    join(k, s, g, u, h)
 }
 
 // A well-formed record beside the automaton of every word, its rows in s.
@@ -144,8 +143,9 @@ fn combine_meant(k: Binary, first: &[u8], second: &[u8], out: &mut [u8]) -> Writ
         return results::refuse(p);
     };
     let mut s = [0u64; 512];
-    let m = join_records(k, first, second, &mut s);
-    results::finish(&mut s, m, out)
+    let mut u = [0u64; 512];
+    let m = join_records(k, first, second, &mut s, &mut u);
+    results::finish(&mut s, m, &mut u, out)
 }
 
 // An operation on two records, the second of which may be a blank.
@@ -206,8 +206,9 @@ fn operate(k: Unary, bytes: &[u8], out: &mut [u8]) -> Written
         return record::refused(c, 1);
     };
     let mut s = [0u64; 512];
+    let mut u = [0u64; 512];
     let m = build(k, bytes, &mut s);
-    results::finish(&mut s, m, out)
+    results::finish(&mut s, m, &mut u, out)
 }
 
 // Writes the minimal record of the words over the record's letters that it does not accept.

@@ -90,5 +90,6 @@ pub fn star(bytes: &[u8], out: &mut [u8]) -> Written
         };
     }
     let m = repeat(&mut s, g);
-    results::finish(&mut s, m, out)
+    let mut u = [0u64; 512];
+    results::finish(&mut s, m, &mut u, out)
 }

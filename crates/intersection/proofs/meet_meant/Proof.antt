@@ -86,14 +86,16 @@ product-requires c κs =
     )
 
 finish-requires : tie.Need-finish-requires
-finish-requires c κs = c .before .before .product .ensures .valid
+finish-requires c κs =
+    let k = c .before .before .before in
+    (k .product .ensures .valid, k .before .before .before .before .before .before .before .before .before .minimal-form .ensures .1 .bounded .size)
 
 same-length : tie.Need-same-length
 same-length c = search needs
 
 returns-3 : tie.Need-returns-3
 returns-3 c =
-    let k = c .before .before .before .before .before in
+    let k = c .before .before .before .before .before .before in
     let h = k .before .before .before .before .before .before .before in
     let g = h .before .before in
     let a = g .before .before .before .before .before .before .before .before .args in
@@ -104,7 +106,7 @@ returns-3 c =
     let s = k .product .last .1 .1 .1 .1 .0 in
     let built = meet-held (lettersOf bs) (g .minimal-form .result .letters) bs cs (g .minimal-form .last .1 .0) (h .minimal-form2 .last .1 .0) s (g .minimal-form .result) (h .minimal-form2 .result) (k .product .result) (g .minimal-form .ensures .0) (g .minimal-form .ensures .1) (second h) (k .product .ensures) in
     let small = within bs cs (passed (g .before .before)) (g .minimal-form .result .states * h .minimal-form2 .result .states) (dimensions h) (omega (arith, k .before .before .before .before .if1 .left)) in
-    meet-gives bs cs buf s (k .product .result) (f .last .1 .1 .0) (f .result) (passed (g .before .before), small) built (f .ensures .0) (f .ensures .1)
+    meet-gives bs cs buf s (k .product .result) (f .last .1 .1 .1 .0) (f .result) (passed (g .before .before), small) built (f .ensures .0) (f .ensures .1)
 
 pub meet-meant-spec : {M : Type 1} → statement M
 meet-meant-spec =

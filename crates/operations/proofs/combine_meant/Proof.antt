@@ -34,7 +34,7 @@ returns c =
     binary-service (a .k) (now (a .first)) (now (a .second)) (now (a .out)) .0 (told .0 .0) (told .0 .1 .0) (told .0 .1 .1 .0) (c .refuse .result) o (c .refuse .ensures ∙ ap pairRefusal (told .1))
 
 join-records-requires : tie.Need-join-records-requires
-join-records-requires c κs = (passed (c .before), refl)
+join-records-requires c κs = (passed (c .before .before), refl, refl)
 
 finish-requires : tie.Need-finish-requires
 finish-requires c κs = search needs
@@ -44,10 +44,10 @@ same-length c = search needs
 
 returns-2 : tie.Need-returns-2
 returns-2 c =
-    let b = c .before .before .before .before .before in
-    let a = b .before .before .before .before .before .before .before .before .args in
+    let b = c .before .before .before .before .before .before in
+    let a = b .before .before .before .before .before .before .before .before .before .args in
     let f = c .before .before .finish in
-    binary-service (a .k) (now (a .first)) (now (a .second)) (now (a .out)) .1 (b .join-records .last .1 .1 .1 .0) (b .join-records .result) (f .last .1 .1 .0) (f .result) (passed (b .before .before)) (b .join-records .ensures) (f .ensures .0) (f .ensures .1)
+    binary-service (a .k) (now (a .first)) (now (a .second)) (now (a .out)) .1 (b .join-records .last .1 .1 .1 .0) (b .join-records .result) (f .last .1 .1 .1 .0) (f .result) (passed (b .before .before .before)) (b .join-records .ensures .0) (f .ensures .0) (f .ensures .1)
 
 pub combine-meant-spec : {M : Type 1} → statement M
 combine-meant-spec =

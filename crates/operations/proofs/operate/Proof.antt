@@ -43,10 +43,10 @@ same-length c = search needs
 
 returns-2 : tie.Need-returns-2
 returns-2 c =
-    let b = c .before .before .before .before .before in
+    let b = c .before .before .before .before .before .before in
     let a = b .before .before .before .before .before .before .before .args in
     let f = c .before .before .finish in
-    unary-service (now (a .bytes)) (a .k) (now (a .out)) .1 (b .build .last .1 .1 .0) (b .build .result) (f .last .1 .1 .0) (f .result) (passed (b .before .before)) (b .build .ensures) (f .ensures .0) (f .ensures .1)
+    unary-service (now (a .bytes)) (a .k) (now (a .out)) .1 (b .build .last .1 .1 .0) (b .build .result) (f .last .1 .1 .1 .0) (f .result) (passed (b .before .before)) (b .build .ensures) (f .ensures .0) (f .ensures .1)
 
 pub operate-spec : {M : Type 1} → statement M
 operate-spec =

@@ -57,7 +57,7 @@ repeat-requires c κs =
     (g .valid, omega (arith, g .states, f .states))
 
 finish-requires : tie.Need-finish-requires
-finish-requires c κs = c .before .before .repeat .ensures .valid
+finish-requires c κs = (c .before .before .before .repeat .ensures .valid, refl)
 
 same-length : tie.Need-same-length
 same-length c = search needs
@@ -65,13 +65,13 @@ same-length c = search needs
 returns-3 : tie.Need-returns-3
 returns-3 c =
     let f = c .before .before .finish in
-    let m = c .before .before .before .before .before .repeat in
-    let k = c .before .before .before .before .before .before .before in
+    let m = c .before .before .before .before .before .before .repeat in
+    let k = c .before .before .before .before .before .before .before .before in
     let g = k .before .before .read in
     let e = k .before .before .before .before in
     let a = e .before .before .before .before .before .args in
     let lacks = empty-held (now (a .bytes)) (g .last .1 .0) (g .result) (g .ensures) ∙ sym (k .before .parity .ensures (g .result .states) (g .ensures .valid .initial)) ∙ k .if1 .left in
-    star-gives (now (a .bytes)) (now (a .out)) (m .last .0) (m .result) (f .last .1 .1 .0) (f .result) (passed e, lacks)
+    star-gives (now (a .bytes)) (now (a .out)) (m .last .0) (m .result) (f .last .1 .1 .1 .0) (f .result) (passed e, lacks)
     (star-held (now (a .bytes)) (g .last .1 .0) (m .last .0) (g .result) (m .result) (g .ensures) (m .ensures)) (f .ensures .0) (f .ensures .1)
 
 pub star-spec : {M : Type 1} → statement M
