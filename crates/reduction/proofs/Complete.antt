@@ -201,3 +201,18 @@ module _ (a : ℕ) (A : Automaton) (thin : (l i j : ℕ) → l < a → i < A .st
   -- A search before the pair (k, l) can be completed.
   pub complete : (d k l : ℕ) (P : ℕ → Bool) (R E C : ℕ → ℕ → Bool) (from by : ℕ → ℕ) (S : ℕ → ℕ → ℕ → Bool) → l ≤ a → k < d → Search a A d k l P R E C from by S → Completed a A d R from by
   complete d k l P R E C from by S hl hk G = letters (a - l) d k l P R E C from by S (omega arith) hk G (λ d′ P′ R′ E′ C′ from′ by′ S′ z K. rows (A .states) d′ k P′ R′ E′ C′ from′ by′ S′ z (omega arith) K)
+
+  -- A search that has done every row, or has as many rows as there are states, has found all.
+  pub found-all : (d k : ℕ) (P : ℕ → Bool) (R E C : ℕ → ℕ → Bool) (from by : ℕ → ℕ) (S : ℕ → ℕ → ℕ → Bool) → Search a A d k 0 P R E C from by S → k ≤ d → (k ≡ d) ⊎ (d ≡ A .states)
+      → (K : Completed a A d R from by) × (K .count ≡ d)
+  found-all d k P R E C from by S G hk stop = go stop (decLt k d)
+    where
+      ended : k ≡ d → (K : Completed a A d R from by) × (K .count ≡ d)
+      ended e = let H = subst (λ x. Search a A d x 0 P R E C from by S) e G in (finish d P R E C from by S H, finish-count d P R E C from by S H)
+
+      go : (k ≡ d) ⊎ (d ≡ A .states) → Dec (k < d) → (K : Completed a A d R from by) × (K .count ≡ d)
+      go (inl e) h = ended e
+      go (inr e) (no h) = ended (omega arith)
+      go (inr e) (yes h) =
+          let K = complete d k 0 P R E C from by S (omega arith) h G in
+          (K, omega (arith, K .more, independent-bound (A .states) (K .count) (K .all) (K .tree .independent)))
