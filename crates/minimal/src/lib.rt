@@ -52,7 +52,7 @@ pub fn minimal_form(bytes: &[u8], out: &mut Table) -> Machine
     let mut b = [0u64; 192];
     let mut t = [0u64; 512];
     let m = codec::read(bytes, &mut t);
-    minimisation::minimise(&mut t, m, &mut b, out)
+    minimisation::minimise(&mut t, m, &mut b, out, m.states)
 }
 
 // Writes the minimal record of a record, and answers the dimension of its language. `claims`: where it is granted, the bytes written are the

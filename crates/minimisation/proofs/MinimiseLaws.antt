@@ -1,6 +1,6 @@
 -- The columns that words reach, the automaton folded onto their pivots, and one reduction of that: the minimal automaton.
 use mathlib.Core.Path.{_≡_, refl, ap, _∙_}
-use mathlib.Core.Bool.{_&&_, and-false}
+use mathlib.Core.Bool.{Bool, _&&_, and-false}
 use mathlib.Core.List.{List}
 use Prim.Native.Nat.{ℕ, _<_, _≤_}
 use Rattle.automata.specs.Automaton.{Automaton, accepts}
@@ -21,7 +21,7 @@ use Rattle.rows.proofs.BitLaws.{bits-lt}
 use Rattle.basis.specs.Basis.{cell, bits}
 use Rattle.elimination.specs.Place.{BasisIn}
 use Rattle.transpose.specs.Transposed.{Transposed}
-use Rattle.reduction.specs.Tables.{Reduces}
+use Rattle.reduction.specs.Tables.{Counts, Reduces}
 use Rattle.observation.specs.Observed.{Observed, foldedOf}
 use Rattle.observation.specs.Explore.{Explored}
 use Rattle.observation.proofs.FoldLaws.{folded-minimal}
@@ -47,22 +47,20 @@ explored-low a u n i f b d p v X k h e = bits-lt (cell width b 0 k) n (λ j g. F
     F : BasisIn width n d p (X .found .coef) b
     F = X .found .basis
 
--- The table t′ holds the folded automaton; s is its reduction.
-pub once : (a : ℕ) (t : List ℕ) (n i f : ℕ) (u b : List ℕ) (d p v : ℕ) (t′ : List ℕ) (r x y : ℕ) (b′ s : List ℕ) (e i′ f′ : ℕ)
-    → Transposed a n t u → Explored a u n f i b d p v → Folds a (auto t n i f) p b t′ r x y → Reduces a t′ r x y b′ s e i′ f′ → Minimises a (auto t n i f) s e i′ f′
-once a t n i f u b d p v t′ r x y b′ s e i′ f′ T X F S = record { bounded = S .bounded; same-fields = minimal .0; dimension = minimal .1 }
+-- The table t′ holds the folded automaton; a whole search over it finds e rows, and if these are of use s is its reduction.
+pub once : (a : ℕ) (t : List ℕ) (n i f : ℕ) (u b : List ℕ) (d p v : ℕ) (t′ : List ℕ) (r x y : ℕ) (b′ s : List ℕ) (most e i′ f′ : ℕ)
+    → Transposed a n t u → Explored a u n f i b d p v → Folds a (auto t n i f) p b t′ r x y → Counts a t′ r x y e × (e ≤ most → Reduces a t′ r x y b′ s e i′ f′)
+    → (e ≡ dimensionOf a (auto t n i f)) × (e ≤ most → Minimises a (auto t n i f) s e i′ f′)
+once a t n i f u b d p v t′ r x y b′ s most e i′ f′ T X F (C, S) =
+    let dimension = minimal (C .reduced) (C .rows) (C .from) (C .by) (C .tree) .1 in
+    (dimension, λ h. record { bounded = S h .bounded; same-fields = minimal (auto s e i′ f′) (bits width b′ 1) (S h .from) (S h .by) (S h .tree) .0; dimension = dimension })
   where
     A : Automaton
     A = auto t n i f
 
-    B : Automaton
-    B = auto s e i′ f′
-
-    tree : Tree a (foldedOf A (bits width b 0) r (F .σ)) B e (bits width b′ 1) (S .from) (S .by)
-    tree = tree-bits a (foldedOf A (bits width b 0) r (F .σ)) (auto t′ r x y) B e (bits width b′ 1) (S .from) (S .by) (F .same) (S .tree)
-
-    minimal : (fields a B ≡ fields a (minimalOf a A)) × (e ≡ dimensionOf a A)
-    minimal = folded-minimal a A B (bitOf p) (bits width b 0) (explored-columns a t n i f u b d p v T X) r (F .σ) (F .listed) e (bits width b′ 1) (S .from) (S .by) tree
+    minimal : (B : Automaton) (R : ℕ → ℕ → Bool) (from by : ℕ → ℕ) → Tree a (auto t′ r x y) B e R from by → (fields a B ≡ fields a (minimalOf a A)) × (e ≡ dimensionOf a A)
+    minimal B R from by G = folded-minimal a A B (bitOf p) (bits width b 0) (explored-columns a t n i f u b d p v T X) r (F .σ) (F .listed) e R from by
+        (tree-bits a (foldedOf A (bits width b 0) r (F .σ)) (auto t′ r x y) B e R from by (F .same) G)
 
 -- What is minimal for one automaton is minimal for every other with the same words.
 pub minimises-same : (a : ℕ) (A B : Automaton) (s : List ℕ) (d i f : ℕ) → Same a (accepts A) (accepts B) → Minimises a A s d i f → Minimises a B s d i f

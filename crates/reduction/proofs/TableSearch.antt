@@ -12,6 +12,7 @@ use lib.Dec.{eqb}
 use lib.Bits.{bitAnd, bitXor}
 use Rattle.automata.specs.Xor.{_⊕_}
 use Rattle.automata.specs.Mask.{bitOf}
+use Rattle.automata.specs.Tree.{Tree}
 use Rattle.automata.proofs.Xor.{xor-false, eqb-same, eqb-differ}
 use Rattle.automata.proofs.Below.{up-to}
 use Rattle.automata.proofs.Dependence.{independent-bound}
@@ -19,7 +20,7 @@ use Rattle.rows.specs.Row.{width}
 use Rattle.rows.specs.Table.{blocks, size, at, row, stored}
 use Rattle.rows.specs.Product.{product}
 use Rattle.rows.specs.Machine.{autoBy, auto, Bounded}
-use Rattle.rows.proofs.BitLaws.{bit-xor, bit-none, bits-lt}
+use Rattle.rows.proofs.BitLaws.{bit-xor, bit-none, bit-high, bits-lt}
 use Rattle.rows.proofs.ProductLaws.{bit-product, product-lt}
 use Rattle.rows.proofs.TableLaws.{length-stored, stored-same, stored-other}
 use Rattle.basis.specs.Basis.{basisSize, cell, bits}
@@ -29,8 +30,9 @@ use Rattle.elimination.specs.Echelon.{onto}
 use Rattle.elimination.specs.Place.{BasisIn, Covered, LeftOf, Old, New, Placed}
 use Rattle.elimination.proofs.EchelonLaws.{no-echelon, gt-differ}
 use Rattle.elimination.proofs.PlaceLaws.{if-same, if-other, pivots-low, left-of, on-pivots, place-old, full-left}
-use Rattle.reduction.specs.Tables.{SearchIn, Searching, Coefficients, accepted, Reduces, Column}
+use Rattle.reduction.specs.Tables.{SearchIn, Searching, Searched, Coefficients, accepted, Counts, Reduces, Column}
 use Rattle.reduction.proofs.SearchLaws.{search-none, search-first, search-next, search-old, search-new, search-tree}
+use Rattle.reduction.proofs.Complete.{found-all}
 
 pub count-bound : (σ n d p : ℕ) (C : ℕ → ℕ → Bool) (b : List ℕ) → BasisIn σ n d p C b → d ≤ n
 count-bound σ n d p C b F = independent-bound n d (bits σ b 1) (F .free)
@@ -185,10 +187,20 @@ searching-next a t n i f b s d k p v G = record {
   out = G .out;
 }
 
+-- ---- the end of the search
+
+-- A whole search finds no more rows.
+pub searched-counts : (a : ℕ) (t : List ℕ) (n i f : ℕ) → Bounded a t n i f → (b s : List ℕ) (most d p v : ℕ) → Searched a t n i f b s most d p v → Counts a t n i f d
+searched-counts a t n i f ok b s most d p v X =
+    let G = X .searching in
+    let K = found-all a (auto t n i f) (λ l k j hl hk hj. bit-high n (ok .rows l k hl hk) j hj) d (X .upto) (bitOf p) (bits width b 1) (bits width b 0) (bits width b 2) (G .from) (G .by) (row s) (G .search) (X .within) (X .enough) in
+    let W = K .0 in
+    record { reduced = W .reduced; rows = W .all; from = W .from-all; by = W .by-all; tree = subst (λ c. Tree a (auto t n i f) (W .reduced) c (W .all) (W .from-all) (W .by-all)) (K .1) (W .tree) }
+
 -- Every pair is done.
-pub searching-end : (a : ℕ) (t : List ℕ) (n i f : ℕ) → Bounded a t n i f → (b s : List ℕ) (d p v c r : ℕ) → Searching a t n i f b s d d 0 p v
+pub searched-end : (a : ℕ) (t : List ℕ) (n i f : ℕ) → Bounded a t n i f → (b s : List ℕ) (most d p v c r : ℕ) → Searched a t n i f b s most d p v → d ≤ most
     → ((k : ℕ) → k < d → bitOf c k ≡ eqb k 0) → c < 2 ^ d → Column n b d f r → r < 2 ^ d → Reduces a t n i f b s d c r
-searching-end a t n i f ok b s d p v c r G hc lc hr lr = record {
+searched-end a t n i f ok b s most d p v c r X few hc lc hr lr = record {
   from = G .from;
   by = G .by;
   tree = search-tree a (auto t n i f) (auto s d c r) d (bitOf p) (bits width b 1) (bits width b 0) (bits width b 2) (G .from) (G .by) (G .search) refl hc hr;
@@ -202,6 +214,9 @@ searching-end a t n i f ok b s d p v c r G hc lc hr lr = record {
   };
   base = G .base;
 }
+  where
+    G : Searching a t n i f b s d d 0 p v
+    G = subst (λ k. Searching a t n i f b s d k 0 p v) (X .whole few) (X .searching)
 
 -- ---- the final column
 

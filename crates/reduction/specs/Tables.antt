@@ -3,15 +3,19 @@
 -- given; the products done are the table s.
 --   SearchIn     the search before the pair (k, l), with d rows found and the pivots p
 --   Searching    the same, the products in a table; v has every bit that a row found has
+--   Searched     every pair is done, or as many rows are found as there are states; of no more than `most` rows every pair is done
 --   Coefficients a table for products with the coefficients, four bits at a time
+--   Counts       a whole search finds d rows
 --   Reduces      s is the automaton on the rows that b holds: the list of basis words is their tree
 use mathlib.Core.Path.{_≡_}
 use mathlib.Core.Bool.{Bool, _&&_}
 use mathlib.Core.List.{List}
+use mathlib.Core.Logic.{_⊎_}
 use Prim.Native.Nat.{ℕ, _*_, _^_, _<_, _≤_}
 use lib.ListN.{length}
 use Rattle.automata.specs.Xor.{xorBelow}
 use Rattle.automata.specs.Mask.{bitOf}
+use Rattle.automata.specs.Automaton.{Automaton}
 use Rattle.automata.specs.Tree.{Tree}
 use Rattle.rows.specs.Row.{width}
 use Rattle.rows.specs.Table.{size, at, row}
@@ -33,6 +37,13 @@ pub record Searching (a : ℕ) (t : List ℕ) (n i f : ℕ) (b s : List ℕ) (d 
   pub base : length b ≡ basisSize
   pub out : length s ≡ size
 
+pub record Searched (a : ℕ) (t : List ℕ) (n i f : ℕ) (b s : List ℕ) (most d p v : ℕ) : Type 0 where
+  pub upto : ℕ
+  pub within : upto ≤ d
+  pub searching : Searching a t n i f b s d upto 0 p v
+  pub enough : (upto ≡ d) ⊎ (d ≡ n)
+  pub whole : d ≤ most → upto ≡ d
+
 -- The first g groups of tab are a table of the coefficients in the basis b, at the pivots p.
 pub record Coefficients (g p : ℕ) (b tab : List ℕ) : Type 0 where
   pub few : g ≤ groups
@@ -46,6 +57,13 @@ accepted σ n b f r = xorBelow n (λ j. bits σ b 1 r j && bitOf f j)
 -- c names those of the first d rows of the basis b that are accepted.
 abbrev pub Column : ℕ → List ℕ → ℕ → ℕ → ℕ → Type 0
 Column n b d f c = (k : ℕ) → k < d → bitOf c k ≡ accepted width n b f k
+
+pub record Counts (a : ℕ) (t : List ℕ) (n i f d : ℕ) : Type 0 where
+  pub reduced : Automaton
+  pub rows : ℕ → ℕ → Bool
+  pub from : ℕ → ℕ
+  pub by : ℕ → ℕ
+  pub tree : Tree a (auto t n i f) reduced d rows from by
 
 pub record Reduces (a : ℕ) (t : List ℕ) (n i f : ℕ) (b s : List ℕ) (d i′ f′ : ℕ) : Type 0 where
   pub from : ℕ → ℕ

@@ -8,7 +8,7 @@ ghost use Rattle.rows.specs.Machine.{Valid};
 ghost use Rattle.rows.specs.Product.{product};
 ghost use Rattle.basis.specs.Basis.{basisSize, cell};
 ghost use Rattle.kernels.specs.Products.{Products};
-ghost use Rattle.reduction.specs.Tables.{Searching, Coefficients, Column, Reduces};
+ghost use Rattle.reduction.specs.Tables.{Searching, Searched, Coefficients, Column, Counts, Reduces};
 use basis::Basis;
 use basis::WIDEST;
 use elimination::Size;
@@ -144,10 +144,11 @@ fn look_up_rows(t: &Table, m: Machine, b: &Basis, out: &mut Table, s: Size, firs
 // How many products are worth a table.
 const MANY: usize = 32;
 
-// Every row by every letter, first in, first out.
-pub fn search(t: &Table, m: Machine, b: &mut Basis, out: &mut Table, s: Size) -> Size
+// Every row by every letter, first in, first out. As many rows as there are states are all that there are: if that is more than `most`,
+// the products to come are left.
+pub fn search(t: &Table, m: Machine, b: &mut Basis, out: &mut Table, s: Size, most: usize) -> Size
     requires { ⌜ Valid (now t) m × Searching (m .letters) (now t) (m .states) (mask (m .initial)) (mask (m .finals)) (now b) (now out) (s .count) 0 0 (mask (s .pivots)) (mask (s .used)) ⌝ }
-    ensures { λ r. ⌜ Searching (m .letters) (now (t .entry)) (m .states) (mask (m .initial)) (mask (m .finals)) (now (b .exit)) (now (out .exit)) (r .count) (r .count) 0 (mask (r .pivots)) (mask (r .used)) × (s .count ≤ r .count) × (s .count ≡ 0 → r .count ≡ 0) ⌝ }
+    ensures { λ r. ⌜ Searched (m .letters) (now (t .entry)) (m .states) (mask (m .initial)) (mask (m .finals)) (now (b .exit)) (now (out .exit)) most (r .count) (mask (r .pivots)) (mask (r .used)) × (s .count ≤ r .count) × (s .count ≡ 0 → r .count ≡ 0) ⌝ }
 {
     let n = m.states;
     let a = m.letters;
@@ -155,6 +156,9 @@ pub fn search(t: &Table, m: Machine, b: &mut Basis, out: &mut Table, s: Size) ->
     let mut k: usize = 0;
     while k < r.count {
         if r.count == n {
+            if most < n {
+                return r;
+            }
             if MANY <= (n - k) * a {
                 look_up_rows(t, m, b, out, r, k);
                 return r;
@@ -184,10 +188,11 @@ pub fn column(b: &Basis, n: usize, d: usize, f: Row) -> Row
     y
 }
 
-// The automaton of t and m on a basis of the rows that words lead to, in shortlex order. The basis is left in b, the rows in out.
-pub fn reduce(t: &Table, m: Machine, b: &mut Basis, out: &mut Table) -> Machine
+// The automaton of t and m on a basis of the rows that words lead to, in shortlex order. The basis is left in b, the rows in out. `most`
+// states are of use: of more than that only their number is told.
+pub fn reduce(t: &Table, m: Machine, b: &mut Basis, out: &mut Table, most: usize) -> Machine
     requires { ⌜ Valid (now t) m × (length (now b) ≡ basisSize) × (length (now out) ≡ size) ⌝ }
-    ensures { λ r. ⌜ (r .letters ≡ m .letters) × Reduces (m .letters) (now (t .entry)) (m .states) (mask (m .initial)) (mask (m .finals)) (now (b .exit)) (now (out .exit)) (r .states) (mask (r .initial)) (mask (r .finals)) ⌝ }
+    ensures { λ r. ⌜ (r .letters ≡ m .letters) × Counts (m .letters) (now (t .entry)) (m .states) (mask (m .initial)) (mask (m .finals)) (r .states) × (r .states ≤ most → Reduces (m .letters) (now (t .entry)) (m .states) (mask (m .initial)) (mask (m .finals)) (now (b .exit)) (now (out .exit)) (r .states) (mask (r .initial)) (mask (r .finals))) ⌝ }
 {
     let n = m.states;
     let i = m.initial;
@@ -204,7 +209,7 @@ pub fn reduce(t: &Table, m: Machine, b: &mut Basis, out: &mut Table) -> Machine
         },
         i,
     );
-    let s = search(t, m, b, out, q.size);
+    let s = search(t, m, b, out, q.size, most);
     let d = s.count;
     let c = column(b, n, d, f);
     let row = q.row;

@@ -41,17 +41,17 @@ built-result : (a : ℕ) (L : Language) (A : Automaton) (t : List ℕ) (m : Mach
 built-result a L A t m room same b =
     ap (λ x. resultOf x (automatonIn t m) room) (b .letters) ∙ result-same a (automatonIn t m) A room (λ w ow. sym (b .words w ow) ∙ same w ow)
 
-module _ (a : ℕ) (A : Automaton) (room : ℕ) (s : List ℕ) (g : Machine) (M : Minimises a A s (g .states) (mask (g .initial)) (mask (g .finals))) where
+module _ (a : ℕ) (A : Automaton) (room : ℕ) (g : Machine) (dimension : g .states ≡ dimensionOf a A) where
   pub result-over : maxStates < g .states → resultOf a A room ≡ refused 11 0 (g .states)
   unfolding resultOf
   result-over h =
-      ap (λ d. limited d (fit room (encode a (minimalOf a A)))) (sym (M .dimension))
+      ap (λ d. limited d (fit room (encode a (minimalOf a A)))) (sym dimension)
       ∙ if-low maxStates (g .states) (refused 11 0 (g .states)) (fit room (encode a (minimalOf a A))) h
 
-  pub result-within : g .letters ≡ a → g .states ≤ maxStates → resultOf a A room ≡ fit room (encode (g .letters) (automatonIn s g))
+  pub result-within : (s : List ℕ) → Minimises a A s (g .states) (mask (g .initial)) (mask (g .finals)) → g .letters ≡ a → g .states ≤ maxStates → resultOf a A room ≡ fit room (encode (g .letters) (automatonIn s g))
   unfolding resultOf
-  result-within e h =
-      ap (λ d. limited d (fit room (encode a (minimalOf a A)))) (sym (M .dimension))
+  result-within s M e h =
+      ap (λ d. limited d (fit room (encode a (minimalOf a A)))) (sym dimension)
       ∙ if-high maxStates (g .states) (refused 11 0 (g .states)) (fit room (encode a (minimalOf a A))) h
       ∙ ap (fit room) (sym (ap (λ x. encode x (automatonIn s g)) e ∙ fields-encode a (automatonIn s g) (minimalOf a A) (M .same-fields)))
 

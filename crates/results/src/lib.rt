@@ -20,7 +20,7 @@ pub fn finish(t: &mut Table, m: Machine, c: &mut Table, out: &mut [u8]) -> Writt
     ensures buffer { λ _. ⌜ now (out .exit) ≡ bufferIn (resultOf (m .letters) (automatonIn (now (t .entry)) m)) (now (out .entry)) ⌝ }
 {
     let mut b = [0u64; 192];
-    let g = minimisation::minimise(t, m, &mut b, c);
+    let g = minimisation::minimise(t, m, &mut b, c, MAX_STATES);
     let d = g.states;
     if MAX_STATES < d {
         return Written::Refused {

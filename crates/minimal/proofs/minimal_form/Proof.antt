@@ -1,6 +1,8 @@
 -- `minimal_form`: the table that was read holds the record's automaton.
 use mathlib.Core.Path.{refl, subst, _∙_}
+use native.Mathlib.Omega.{arith}
 use denote.Ref.{now}
+use Rattle.automata.proofs.Dimension.{dimension-least}
 use Rattle.automata.proofs.Minimal.{bits-language}
 use Rattle.rows.specs.Row.{mask}
 use Rattle.rows.specs.Machine.{automatonIn}
@@ -27,10 +29,11 @@ returns c =
     let h = k .read .ensures in
     let s = c .minimise .last .1 .1 .1 .0 in
     let r = c .minimise .result in
-    let e = c .minimise .ensures in (
+    let e = c .minimise .ensures in
+    let M = e .2 (omega (arith, e .1, dimension-least (m .letters) (automatonIn t m) (automatonIn t m) (λ w ow. refl))) in (
       e .0 ∙ h .letters,
       minimises-same (lettersOf bs) (automatonIn t m) (automatonOf bs) s (r .states) (mask (r .initial)) (mask (r .finals)) (bits-language (lettersOf bs) (automatonIn t m) (automatonOf bs) (bits-held bs t m h))
-          (subst (λ a. Minimises a (automatonIn t m) s (r .states) (mask (r .initial)) (mask (r .finals))) (h .letters) (e .1)),
+          (subst (λ a. Minimises a (automatonIn t m) s (r .states) (mask (r .initial)) (mask (r .finals))) (h .letters) M),
     )
 
 pub minimal-form-spec : {M : Type 1} → statement M

@@ -5,7 +5,7 @@ use Rattle.automata.specs.Mask.{bitOf}
 use Rattle.rows.specs.Row.{width, mask}
 use Rattle.basis.specs.Basis.{bits}
 use Rattle.elimination.specs.Place.{BasisIn, Placed}
-use Rattle.reduction.proofs.TableSearch.{count-bound, found-low, empty-basis, empty-cover, searching-start, start-row, searching-end}
+use Rattle.reduction.proofs.TableSearch.{count-bound, found-low, empty-basis, empty-cover, searching-start, start-row, searched-counts, searched-end}
 use borrow.Author.Needs.{needs}
 use Rattle.reduction.proofs.reduce.Statement.{statement}
 use Rattle.reduction.proofs.reduce.Tie as tie
@@ -38,7 +38,7 @@ column-requires c κs =
     let f = c .before .search in
     let r = f .result in
     let b = f .last .1 .1 .0 in
-    let B = f .ensures .0 .search .basis in
+    let B = f .ensures .0 .searching .search .basis in
     (omega (arith, count-bound width n (r .count) (mask (r .pivots)) (bits width b 2) b B, s .pre .0 .states), found-low width n (r .count) (mask (r .pivots)) (bits width b 2) b B)
 
 returns : tie.Need-returns
@@ -53,7 +53,8 @@ returns c =
     let k = c .before .column in
     let i = start-row width (a .m .states) (mask (a .m .initial)) (bits width (a .b .now) 2) (bits width (p .last .0) 2) (a .b .now) (p .last .0) (mask (q .row)) (q .size .count) (mask (q .size .pivots)) (mask (q .size .used)) (r .count) (placed (c .before .before .before .before .before .before)) (e .1) (e .2) in (
       refl,
-      searching-end (a .m .letters) (a .t .now) (a .m .states) (mask (a .m .initial)) (mask (a .m .finals)) (s .pre .0) (f .last .1 .1 .0) (f .last .1 .1 .1 .0) (r .count) (mask (r .pivots)) (mask (r .used)) (mask (q .row)) (mask (k .result)) (e .0) (i .0) (i .1) (k .ensures .0) (k .ensures .1),
+      searched-counts (a .m .letters) (a .t .now) (a .m .states) (mask (a .m .initial)) (mask (a .m .finals)) (s .pre .0) (f .last .1 .1 .0) (f .last .1 .1 .1 .0) (a .most) (r .count) (mask (r .pivots)) (mask (r .used)) (e .0),
+      λ h. searched-end (a .m .letters) (a .t .now) (a .m .states) (mask (a .m .initial)) (mask (a .m .finals)) (s .pre .0) (f .last .1 .1 .0) (f .last .1 .1 .1 .0) (a .most) (r .count) (mask (r .pivots)) (mask (r .used)) (mask (q .row)) (mask (k .result)) (e .0) h (i .0) (i .1) (k .ensures .0) (k .ensures .1),
     )
 
 pub reduce-spec : {M : Type 1} → statement M
