@@ -206,8 +206,8 @@ fn operate(k: Unary, bytes: &[u8], out: &mut [u8]) -> Written
         return record::refused(c, 1);
     };
     let mut s = [0u64; 512];
-    let mut u = [0u64; 512];
     let m = build(k, bytes, &mut s);
+    let mut u = [0u64; 512];
     results::finish(&mut s, m, &mut u, out)
 }
 
