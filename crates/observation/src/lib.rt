@@ -47,12 +47,11 @@ fn explore_row(t: &Table, m: Machine, b: &mut Basis, s: Size, k: usize) -> Size
     explore_letters(t, m, b, s, k)
 }
 
-// From how many letters on the row found last comes first. Over few letters rows are found as fast one after another, and a row that is
-// found only now keeps the processor waiting.
-const MANY: usize = 5;
+// From how many letters on the row found last comes next. Over fewer it finds no basis sooner.
+const MANY: usize = 4;
 
-// Which of the rows that are not tried yet comes next, d rows being found: the first of them; over many letters the one found last, unless
-// it is tried, as longer words tell more apart.
+// Which of the rows that are not tried yet comes next, d rows being found: the first of them; over many letters the one found last, if it
+// is not tried, as longer words tell more apart.
 fn next(todo: Row, d: usize, a: usize) -> usize
     requires { ⌜ (0 < mask todo) × (mask todo < 2 ^ d) × (d ≤ width) ⌝ }
     ensures { λ r. ⌜ (r < d) × (bitOf (mask todo) r ≡ true) ⌝ }
