@@ -2,7 +2,7 @@
 use mathlib.Core.Path.{_≡_, refl, ap, _∙_}
 use mathlib.Core.Bool.{Bool, _&&_, and-false}
 use mathlib.Core.List.{List}
-use Prim.Native.Nat.{ℕ, _<_, _≤_}
+use Prim.Native.Nat.{ℕ}
 use Rattle.automata.specs.Automaton.{Automaton, accepts}
 use Rattle.automata.specs.Language.{Same}
 use Rattle.automata.specs.Mask.{bitOf}
@@ -21,13 +21,13 @@ use Rattle.rows.proofs.BitLaws.{bits-lt}
 use Rattle.basis.specs.Basis.{cell, bits}
 use Rattle.elimination.specs.Place.{BasisIn}
 use Rattle.transpose.specs.Transposed.{Transposed}
-use Rattle.reduction.specs.Tables.{Counts, Reduces}
+use Rattle.reduction.specs.Tables.{ReducesUpTo}
 use Rattle.observation.specs.Observed.{Observed, foldedOf}
 use Rattle.observation.specs.Explore.{Explored}
 use Rattle.observation.proofs.FoldLaws.{folded-minimal}
 use Rattle.observation.proofs.ObservedLaws.{observed}
 use Rattle.folding.specs.Folding.{LowAt, Folds}
-use Rattle.minimisation.specs.Minimises.{Minimises}
+use Rattle.minimisation.specs.Minimises.{Minimises, MinimisesUpTo}
 
 pub transposed-bounded : (a n i f : ℕ) (t s : List ℕ) → Bounded a t n i f → Transposed a n t s → Bounded a s n f i
 transposed-bounded a n i f t s ok T = record { states = ok .states; letters = ok .letters; size = T .size; initial = ok .finals; finals = ok .initial; rows = T .low }
@@ -49,8 +49,7 @@ explored-low a u n i f b d p v X k h e = bits-lt (cell width b 0 k) n (λ j g. F
 
 -- The table t′ holds the folded automaton; a whole search over it finds e rows, and if these are of use s is its reduction.
 pub once : (a : ℕ) (t : List ℕ) (n i f : ℕ) (u b : List ℕ) (d p v : ℕ) (t′ : List ℕ) (r x y : ℕ) (b′ s : List ℕ) (most e i′ f′ : ℕ)
-    → Transposed a n t u → Explored a u n f i b d p v → Folds a (auto t n i f) p b t′ r x y → Counts a t′ r x y e × (e ≤ most → Reduces a t′ r x y b′ s e i′ f′)
-    → (e ≡ dimensionOf a (auto t n i f)) × (e ≤ most → Minimises a (auto t n i f) s e i′ f′)
+    → Transposed a n t u → Explored a u n f i b d p v → Folds a (auto t n i f) p b t′ r x y → ReducesUpTo a t′ r x y b′ s most e i′ f′ → MinimisesUpTo a (auto t n i f) s most e i′ f′
 once a t n i f u b d p v t′ r x y b′ s most e i′ f′ T X F (C, S) =
     let dimension = minimal (C .reduced) (C .rows) (C .from) (C .by) (C .tree) .1 in
     (dimension, λ h. record { bounded = S h .bounded; same-fields = minimal (auto s e i′ f′) (bits width b′ 1) (S h .from) (S h .by) (S h .tree) .0; dimension = dimension })

@@ -1,13 +1,11 @@
 // The minimal automaton: a basis of the columns that words reach, the automaton folded onto its pivots, and one reduction of that.
 ghost use mathlib.Core.Path.{_≡_};
-ghost use Prim.Native.Nat.{_≤_};
 ghost use lib.ListN.{length};
-ghost use Rattle.automata.specs.MinimalOf.{dimensionOf};
 ghost use Rattle.rows.specs.Row.{mask};
 ghost use Rattle.rows.specs.Table.{size};
 ghost use Rattle.rows.specs.Machine.{automatonIn, Valid};
 ghost use Rattle.basis.specs.Basis.{basisSize};
-ghost use Rattle.minimisation.specs.Minimises.{Minimises};
+ghost use Rattle.minimisation.specs.Minimises.{MinimisesUpTo};
 use basis::Basis;
 use rows::Machine;
 use rows::Table;
@@ -16,7 +14,7 @@ use rows::Table;
 // folded automaton, and the basis b is for work.
 pub fn minimise(t: &mut Table, m: Machine, b: &mut Basis, c: &mut Table, most: usize) -> Machine
     requires { ⌜ Valid (now t) m × (length (now b) ≡ basisSize) × (length (now c) ≡ size) ⌝ }
-    ensures { λ r. ⌜ (r .letters ≡ m .letters) × (r .states ≡ dimensionOf (m .letters) (automatonIn (now (t .entry)) m)) × (r .states ≤ most → Minimises (m .letters) (automatonIn (now (t .entry)) m) (now (c .exit)) (r .states) (mask (r .initial)) (mask (r .finals))) ⌝ }
+    ensures { λ r. ⌜ (r .letters ≡ m .letters) × MinimisesUpTo (m .letters) (automatonIn (now (t .entry)) m) (now (c .exit)) most (r .states) (mask (r .initial)) (mask (r .finals)) ⌝ }
 {
     let a = m.letters;
     let n = m.states;

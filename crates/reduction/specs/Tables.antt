@@ -7,6 +7,7 @@
 --   Coefficients a table for products with the coefficients, four bits at a time
 --   Counts       a whole search finds d rows
 --   Reduces      s is the automaton on the rows that b holds: the list of basis words is their tree
+--   ReducesUpTo  a whole search finds d rows, and s is so where these are no more than `most`
 use mathlib.Core.Path.{_≡_}
 use mathlib.Core.Bool.{Bool, _&&_}
 use mathlib.Core.List.{List}
@@ -71,3 +72,6 @@ pub record Reduces (a : ℕ) (t : List ℕ) (n i f : ℕ) (b s : List ℕ) (d i�
   pub tree : Tree a (auto t n i f) (auto s d i′ f′) d (bits width b 1) from by
   pub bounded : Bounded a s d i′ f′
   pub base : length b ≡ basisSize
+
+abbrev pub ReducesUpTo : ℕ → List ℕ → ℕ → ℕ → ℕ → List ℕ → List ℕ → ℕ → ℕ → ℕ → ℕ → Type 0
+ReducesUpTo a t n i f b s most d i′ f′ = Counts a t n i f d × (d ≤ most → Reduces a t n i f b s d i′ f′)

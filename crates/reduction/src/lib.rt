@@ -8,7 +8,7 @@ ghost use Rattle.rows.specs.Machine.{Valid};
 ghost use Rattle.rows.specs.Product.{product};
 ghost use Rattle.basis.specs.Basis.{basisSize, cell};
 ghost use Rattle.kernels.specs.Products.{Products};
-ghost use Rattle.reduction.specs.Tables.{Searching, Searched, Coefficients, Column, Counts, Reduces};
+ghost use Rattle.reduction.specs.Tables.{Searching, Searched, Coefficients, Column, ReducesUpTo};
 use basis::Basis;
 use basis::WIDEST;
 use elimination::Size;
@@ -192,7 +192,7 @@ pub fn column(b: &Basis, n: usize, d: usize, f: Row) -> Row
 // states are of use: of more than that only their number is told.
 pub fn reduce(t: &Table, m: Machine, b: &mut Basis, out: &mut Table, most: usize) -> Machine
     requires { ⌜ Valid (now t) m × (length (now b) ≡ basisSize) × (length (now out) ≡ size) ⌝ }
-    ensures { λ r. ⌜ (r .letters ≡ m .letters) × Counts (m .letters) (now (t .entry)) (m .states) (mask (m .initial)) (mask (m .finals)) (r .states) × (r .states ≤ most → Reduces (m .letters) (now (t .entry)) (m .states) (mask (m .initial)) (mask (m .finals)) (now (b .exit)) (now (out .exit)) (r .states) (mask (r .initial)) (mask (r .finals))) ⌝ }
+    ensures { λ r. ⌜ (r .letters ≡ m .letters) × ReducesUpTo (m .letters) (now (t .entry)) (m .states) (mask (m .initial)) (mask (m .finals)) (now (b .exit)) (now (out .exit)) most (r .states) (mask (r .initial)) (mask (r .finals)) ⌝ }
 {
     let n = m.states;
     let i = m.initial;

@@ -30,7 +30,7 @@ returns c =
     let s = c .minimise .last .1 .1 .1 .0 in
     let r = c .minimise .result in
     let e = c .minimise .ensures in
-    let M = e .2 (omega (arith, e .1, dimension-least (m .letters) (automatonIn t m) (automatonIn t m) (λ w ow. refl))) in (
+    let M = e .1 .1 (omega (arith, e .1 .0, dimension-least (m .letters) (automatonIn t m) (automatonIn t m) (λ w ow. refl))) in (
       e .0 ∙ h .letters,
       minimises-same (lettersOf bs) (automatonIn t m) (automatonOf bs) s (r .states) (mask (r .initial)) (mask (r .finals)) (bits-language (lettersOf bs) (automatonIn t m) (automatonOf bs) (bits-held bs t m h))
           (subst (λ a. Minimises a (automatonIn t m) s (r .states) (mask (r .initial)) (mask (r .finals))) (h .letters) M),

@@ -1,9 +1,8 @@
 -- `minimise`: the mirror is searched, the table folded by what is found, and the folded automaton reduced.
 use mathlib.Core.Path.{sym, subst, _∙_}
-use Prim.Native.Nat.{_≤_}
 use Rattle.rows.specs.Row.{mask}
 use Rattle.rows.specs.Machine.{Bounded}
-use Rattle.reduction.specs.Tables.{Counts, Reduces}
+use Rattle.reduction.specs.Tables.{ReducesUpTo}
 use Rattle.minimisation.proofs.MinimiseLaws.{transposed-bounded, explored-low, once}
 use Rattle.minimisation.proofs.minimise.Statement.{statement}
 use Rattle.minimisation.proofs.minimise.Tie as tie
@@ -46,10 +45,11 @@ returns c =
     let k = c .before .before .before .before .fold in
     let g = k .result in
     let z = c .reduce .result in
-    let S = subst (λ l. Counts l (k .last .1 .1 .0) (g .states) (mask (g .initial)) (mask (g .finals)) (z .states) × (z .states ≤ a .most → Reduces l (k .last .1 .1 .0) (g .states) (mask (g .initial)) (mask (g .finals)) (c .reduce .last .1 .1 .0) (c .reduce .last .1 .1 .1 .0) (z .states) (mask (z .initial)) (mask (z .finals)))) (k .ensures .0) (c .reduce .ensures .1, c .reduce .ensures .2) in
-    let o = once (m .letters) (a .t .now) (m .states) (mask (m .initial)) (mask (m .finals)) (u .last .1 .1 .1 .0) (x .last .1 .1 .0) (s .count) (mask (s .pivots)) (mask (s .used)) (k .last .1 .1 .0) (g .states) (mask (g .initial)) (mask (g .finals))
-    (c .reduce .last .1 .1 .0) (c .reduce .last .1 .1 .1 .0) (a .most) (z .states) (mask (z .initial)) (mask (z .finals)) (u .ensures) (x .ensures) (k .ensures .1) S in
-    (c .reduce .ensures .0 ∙ k .ensures .0, o .0, o .1)
+    let S = subst (λ l. ReducesUpTo l (k .last .1 .1 .0) (g .states) (mask (g .initial)) (mask (g .finals)) (c .reduce .last .1 .1 .0) (c .reduce .last .1 .1 .1 .0) (a .most) (z .states) (mask (z .initial)) (mask (z .finals))) (k .ensures .0) (c .reduce .ensures .1) in (
+      c .reduce .ensures .0 ∙ k .ensures .0,
+      once (m .letters) (a .t .now) (m .states) (mask (m .initial)) (mask (m .finals)) (u .last .1 .1 .1 .0) (x .last .1 .1 .0) (s .count) (mask (s .pivots)) (mask (s .used)) (k .last .1 .1 .0) (g .states) (mask (g .initial)) (mask (g .finals))
+          (c .reduce .last .1 .1 .0) (c .reduce .last .1 .1 .1 .0) (a .most) (z .states) (mask (z .initial)) (mask (z .finals)) (u .ensures) (x .ensures) (k .ensures .1) S,
+    )
 
 pub minimise-spec : {M : Type 1} → statement M
 minimise-spec = tie.close (tie.spec transposed-requires explore-requires fold-requires reduce-requires returns)

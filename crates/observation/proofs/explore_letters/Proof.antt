@@ -7,7 +7,7 @@ use Rattle.rows.specs.Row.{width, mask}
 use Rattle.rows.specs.Table.{at}
 use Rattle.rows.specs.Product.{product}
 use Rattle.rows.proofs.ProductLaws.{product-lt}
-use Rattle.basis.specs.Basis.{cell, bits}
+use Rattle.basis.specs.Basis.{cell}
 use Rattle.kernels.specs.Products.{Products}
 use Rattle.reduction.proofs.TableSearch.{found-low}
 use Rattle.observation.specs.Explore.{Tried, Found, Grown}

@@ -1,5 +1,5 @@
 -- `explore_rows`: the rows in `done` are tried, and there is one more of them each time.
-use mathlib.Core.Path.{_≡_, sym, ap, _∙_}
+use mathlib.Core.Path.{sym, ap, _∙_}
 use mathlib.Core.Bool.{not, true≢false}
 use mathlib.Core.Logic.{inl, inr}
 use Prim.Native.Nat.{_-_, _^_, _≤_}

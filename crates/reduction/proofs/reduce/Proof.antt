@@ -53,8 +53,10 @@ returns c =
     let k = c .before .column in
     let i = start-row width (a .m .states) (mask (a .m .initial)) (bits width (a .b .now) 2) (bits width (p .last .0) 2) (a .b .now) (p .last .0) (mask (q .row)) (q .size .count) (mask (q .size .pivots)) (mask (q .size .used)) (r .count) (placed (c .before .before .before .before .before .before)) (e .1) (e .2) in (
       refl,
-      searched-counts (a .m .letters) (a .t .now) (a .m .states) (mask (a .m .initial)) (mask (a .m .finals)) (s .pre .0) (f .last .1 .1 .0) (f .last .1 .1 .1 .0) (a .most) (r .count) (mask (r .pivots)) (mask (r .used)) (e .0),
-      λ h. searched-end (a .m .letters) (a .t .now) (a .m .states) (mask (a .m .initial)) (mask (a .m .finals)) (s .pre .0) (f .last .1 .1 .0) (f .last .1 .1 .1 .0) (a .most) (r .count) (mask (r .pivots)) (mask (r .used)) (mask (q .row)) (mask (k .result)) (e .0) h (i .0) (i .1) (k .ensures .0) (k .ensures .1),
+      (
+        searched-counts (a .m .letters) (a .t .now) (a .m .states) (mask (a .m .initial)) (mask (a .m .finals)) (s .pre .0) (f .last .1 .1 .0) (f .last .1 .1 .1 .0) (a .most) (r .count) (mask (r .pivots)) (mask (r .used)) (e .0),
+        λ h. searched-end (a .m .letters) (a .t .now) (a .m .states) (mask (a .m .initial)) (mask (a .m .finals)) (s .pre .0) (f .last .1 .1 .0) (f .last .1 .1 .1 .0) (a .most) (r .count) (mask (r .pivots)) (mask (r .used)) (mask (q .row)) (mask (k .result)) (e .0) h (i .0) (i .1) (k .ensures .0) (k .ensures .1),
+      ),
     )
 
 pub reduce-spec : {M : Type 1} → statement M
