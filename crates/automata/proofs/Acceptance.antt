@@ -51,6 +51,11 @@ pub reach-cong : (A : Automaton) (r s : ℕ → Bool) → ((i : ℕ) → i < A .
 reach-cong A r s h [] j p = h j p
 reach-cong A r s h (l ∷ w) j p = reach-cong A (times A l r) (times A l s) (λ i q. xor-cong (A .states) (λ x g. ap (λ b. b && A .step l x i) (h x g))) w j p
 
+-- From no state none is reached.
+pub reach-none : (A : Automaton) (r : ℕ → Bool) → ((i : ℕ) → i < A .states → r i ≡ false) → (w : List ℕ) (j : ℕ) → j < A .states → reach A r w j ≡ false
+reach-none A r h [] j p = h j p
+reach-none A r h (l ∷ w) j p = reach-none A (times A l r) (λ i q. xor-none (A .states) (λ x g. ap (λ b. b && A .step l x i) (h x g))) w j p
+
 -- Rows that cancel below the states accept nothing together.
 rows-cancel : (A : Automaton) (m : ℕ) (c : ℕ → Bool) (f : ℕ → ℕ → Bool) → ((j : ℕ) → j < A .states → comb m c f j ≡ false)
     → (v : List ℕ) → xorBelow m (λ i. c i && rowAccepts A (f i) v) ≡ false

@@ -15,6 +15,7 @@ pub mod Star
 pub mod ConcatenationOf
 pub mod StarOf
 pub mod Span
+pub mod Restriction
 pub mod Basis
 pub mod Minimal
 pub mod ShortWords

@@ -5,12 +5,13 @@
 --   intersection            the words of both (01: meet)
 --   complement              the words that a language lacks
 --   reversal                the reversed words (01: mirror)
+--   restriction a L         the words of L over a letters: a word with any other letter is not one of them (02, Note 3)
 use mathlib.Core.Path.{_≡_}
 use mathlib.Core.Bool.{Bool, not, _&&_}
 use mathlib.Core.List.{List, _++_, reverse}
 use Prim.Native.Nat.{ℕ}
 use Rattle.automata.specs.Xor.{_⊕_}
-use Rattle.automata.specs.Word.{Over}
+use Rattle.automata.specs.Word.{Over, isOver}
 
 abbrev pub Language : Type 0
 Language = List ℕ → Bool
@@ -32,3 +33,6 @@ complement L w = not (L w)
 
 abbrev pub reversal : Language → Language
 reversal L w = L (reverse w)
+
+abbrev pub restriction : ℕ → Language → Language
+restriction a L w = isOver a w && L w
