@@ -95,11 +95,11 @@ below-sorted a n = sorted-join n (wordsOfLength a) (λ i p. words-sorted a i) (�
 
 -- ---- tests over a list
 
-pub all-of : (f : List ℕ → Bool) (ws : List (List ℕ)) → allOf f ws ≡ true → (w : List ℕ) → Member w ws → f w ≡ true
-all-of f [] e w m = absurd m
-all-of f (x ∷ xs) e w (inl q) = ap f q ∙ and-eq-true-iff (f x) (allOf f xs) .0 e .0
-all-of f (x ∷ xs) e w (inr m) = all-of f xs (and-eq-true-iff (f x) (allOf f xs) .0 e .1) w m
+pub all-of : {X : Type 0} (f : X → Bool) (xs : List X) → allOf f xs ≡ true → (x : X) → Member x xs → f x ≡ true
+all-of f [] e x m = absurd m
+all-of f (y ∷ ys) e x (inl q) = ap f q ∙ and-eq-true-iff (f y) (allOf f ys) .0 e .0
+all-of f (y ∷ ys) e x (inr m) = all-of f ys (and-eq-true-iff (f y) (allOf f ys) .0 e .1) x m
 
-pub of-all : (f : List ℕ → Bool) (ws : List (List ℕ)) → ((w : List ℕ) → Member w ws → f w ≡ true) → allOf f ws ≡ true
+pub of-all : {X : Type 0} (f : X → Bool) (xs : List X) → ((x : X) → Member x xs → f x ≡ true) → allOf f xs ≡ true
 of-all f [] h = refl
-of-all f (x ∷ xs) h = and-eq-true-iff (f x) (allOf f xs) .1 (h x (inl refl), of-all f xs (λ w m. h w (inr m)))
+of-all f (y ∷ ys) h = and-eq-true-iff (f y) (allOf f ys) .1 (h y (inl refl), of-all f ys (λ x m. h x (inr m)))

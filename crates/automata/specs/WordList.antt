@@ -18,10 +18,10 @@ wordsOfLength a (suc n) = joinBelow a (λ l. map (λ w. l ∷ w) (wordsOfLength 
 abbrev pub wordsBelow : ℕ → ℕ → List (List ℕ)
 wordsBelow a n = joinBelow n (wordsOfLength a)
 
--- Whether f holds at every word of a list.
-abbrev pub allOf : (List ℕ → Bool) → List (List ℕ) → Bool
+-- Whether f holds at everything in a list.
+abbrev pub allOf : {X : Type 0} → (X → Bool) → List X → Bool
 allOf f [] = true
-allOf f (w ∷ ws) = f w && allOf f ws
+allOf f (x ∷ xs) = f x && allOf f xs
 
 -- The first word of a list at which f holds.
 abbrev pub firstOf : (List ℕ → Bool) → List (List ℕ) → Option (List ℕ)
