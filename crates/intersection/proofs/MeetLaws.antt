@@ -1,7 +1,7 @@
 -- The outcome of the meet, case by case, and its claims over all words.
 use mathlib.Core.Path.{_≡_, refl, sym, ap, ap₂, subst, _∙_}
 use mathlib.Core.Bool.{_&&_}
-use mathlib.Core.List.{List, []}
+use mathlib.Core.List.{List, [], _∷_}
 use Prim.Native.Nat.{ℕ, _*_, _<_, _≤_}
 use native.Mathlib.Decide.{decLt}
 use native.Mathlib.Omega.{arith}
@@ -29,9 +29,10 @@ use Rattle.operands.specs.Meant.{blankOf}
 use Rattle.operands.specs.Operands.{pairOf}
 use Rattle.operands.specs.declared.Pair.the-variants.{Refused as Bad}
 use Rattle.operands.proofs.MeantLaws.{SameFor, writes-blank}
+use Rattle.record.proofs.Numbers.{not-among}
 use Rattle.results.specs.Results.{resultOf, Limits}
 use Rattle.results.specs.Built.{Built}
-use Rattle.results.proofs.ResultLaws.{result-number, limits-of, Promises, Service, service-of}
+use Rattle.results.proofs.ResultLaws.{result-among, limits-of, Promises, Service, service-of}
 use Rattle.results.proofs.Passed.{sizes, pair-wrote, pair-refused, pair-passed}
 use Rattle.results.proofs.BuiltLaws.{built-same}
 use Rattle.intersection.specs.Meet.{maxProduct, crossing, meetOutcome, DimensionProduct, Small, Meets}
@@ -114,7 +115,7 @@ module _ (bs cs : List ℕ) where
 
   meet-products : (room : ℕ) (r : Written) → r ≡ answerOf (meetOutcome bs cs room) → Limits 10 maxProduct (Operands bs cs) (DimensionProduct bs cs) r
   meet-products room = limits-of 10 maxProduct product (result room) (meetOutcome bs cs room) (Operands bs cs) (DimensionProduct bs cs)
-      (passed room) (meet-passed room 10) (λ k e. let z = result-number (lettersOf bs) (meetOf (automatonOf bs) (automatonOf cs)) room 10 0 k e .0 in omega arith)
+      (passed room) (meet-passed room 10) (λ k. not-among (11 ∷ 12 ∷ []) _ (result-among (lettersOf bs) (meetOf (automatonOf bs) (automatonOf cs)) room) 10 0 k refl)
       dimensions unique
 
   meet-service : (buf : List ℕ) → Service (lettersOf bs) (intersection (languageOf bs) (languageOf cs)) (Operands bs cs × Small bs cs) buf (meetOutcome bs cs (length buf))

@@ -10,7 +10,7 @@ use Rattle.text.proofs.Decimal.{decimal-injective}
 use Rattle.compare.specs.declared.Side.{Side}
 use Rattle.compare.proofs.CompareLaws.{clash}
 use Rattle.compare.specs.declared.Side.the-variants.{First, Second}
-use Rattle.lines.specs.Lines.{opening, dimLine, sameLine, acceptedBy, differLine}
+use Rattle.lines.specs.Lines.{opening, refusedLine, dimLine, keyLine, sameLine, acceptedBy, differLine, tooLongLine}
 
 -- ---- no figure is a space
 
@@ -122,3 +122,48 @@ not-both index m n w side e =
     let k = append-cancel-left (decimal index) (ascii " same dim " ++ (decimal m ++ ascii "\n")) (ascii " differ dim " ++ (decimal n ++ (ascii " word " ++ (wordText w ++ acceptedBy side)))) l in
     let z : _≡_ {A = ℕ} 115 100 = cc in
     omega arith
+
+-- ---- a line that says `refused`
+
+refused-fields : (index number place : ℕ) → refusedLine index number place ≡ decimal index ++ (ascii " refused " ++ (decimal number ++ (ascii " " ++ (decimal place ++ ascii "\n"))))
+unfolding refusedLine
+refused-fields index number place = simp append-assoc (opened index (ascii " refused ") number (ascii " " ++ (decimal place ++ ascii "\n")))
+
+-- Its number is read back.
+pub refused-number : (i j m n p q : ℕ) → refusedLine i m p ≡ refusedLine j n q → m ≡ n
+refused-number i j m n p q e =
+    let l = sym (refused-fields i m p) ∙ e ∙ refused-fields j n q in
+    let t = split (decimal i) (decimal j) (ascii "refused " ++ (decimal m ++ (ascii " " ++ (decimal p ++ ascii "\n")))) (ascii "refused " ++ (decimal n ++ (ascii " " ++ (decimal q ++ ascii "\n")))) (dark-decimal i) (dark-decimal j) l in
+    let k = append-cancel-left (ascii "refused ") (decimal m ++ (ascii " " ++ (decimal p ++ ascii "\n"))) (decimal n ++ (ascii " " ++ (decimal q ++ ascii "\n"))) (t .1) in
+    decimal-injective m n (split (decimal m) (decimal n) (decimal p ++ ascii "\n") (decimal q ++ ascii "\n") (dark-decimal m) (dark-decimal n) k .0)
+
+-- A line whose second field begins otherwise does not say it.
+other-field : (xs : List ℕ) (c : ℕ) (rest : List ℕ) (i n p : ℕ) → Dark xs → (c ≡ 114 → ⊥) → xs ++ (32 ∷ c ∷ rest) ≡ refusedLine i n p → ⊥
+other-field xs c rest i n p h other e =
+    let t = split xs (decimal i) (c ∷ rest) (ascii "refused " ++ (decimal n ++ (ascii " " ++ (decimal p ++ ascii "\n")))) h (dark-decimal i) (e ∙ refused-fields i n p) in
+    let u = t .1 in
+    other cc
+
+module _ (i n p : ℕ) where
+  pub key-not-refused : (d : ℕ) → keyLine d ≡ refusedLine i n p → ⊥
+  unfolding dimLine
+  key-not-refused d e = other-field (decimal 0) 107 (ascii "ey dim " ++ (decimal d ++ ascii "\n")) i n p (dark-decimal 0) (λ z. omega arith) (sym (opened 0 (ascii " key dim ") d (ascii "\n")) ∙ e)
+
+  pub same-not-refused : (index d : ℕ) → sameLine index d ≡ refusedLine i n p → ⊥
+  unfolding dimLine
+  same-not-refused index d e = other-field (decimal index) 115 (ascii "ame dim " ++ (decimal d ++ ascii "\n")) i n p (dark-decimal index) (λ z. omega arith) (sym (opened index (ascii " same dim ") d (ascii "\n")) ∙ e)
+
+  pub differ-not-refused : (index d : ℕ) (w : List ℕ) (side : Side) → differLine index d w side ≡ refusedLine i n p → ⊥
+  differ-not-refused index d w side e =
+      other-field (decimal index) 100 (ascii "iffer dim " ++ (decimal d ++ (ascii " word " ++ (wordText w ++ acceptedBy side)))) i n p (dark-decimal index) (λ z. omega arith) (sym (differ-fields index d w side) ∙ e)
+
+  pub long-not-refused : tooLongLine ≡ refusedLine i n p → ⊥
+  long-not-refused e = other-field (ascii "too") 108 (ascii "ong\n") i n p (omega arith, (omega arith, (omega arith, tt))) (λ z. omega arith) e
+
+  -- Nor does no line.
+  pub none-not-refused : [] ≡ refusedLine i n p → ⊥
+  none-not-refused e = go (decimal i) (ascii "refused " ++ (decimal n ++ (ascii " " ++ (decimal p ++ ascii "\n")))) (e ∙ refused-fields i n p)
+    where
+      go : (xs : List ℕ) (rest : List ℕ) → [] ≡ xs ++ (32 ∷ rest) → ⊥
+      go [] rest q = clash cc
+      go (y ∷ xs) rest q = clash cc

@@ -1,4 +1,5 @@
--- What the lines tell of a record's words, over all words: the claims of the comparison and of the dimension, for each record of a script.
+-- What the lines tell of a record's words, over all words: the claims of the comparison and of the dimension, for each record of a script;
+-- and what the service claims.
 use mathlib.Core.Path.{_≡_, refl, sym, ap, ap₂, subst, _∙_}
 use mathlib.Core.List.{List}
 use mathlib.Core.Option.{Option, none, some}
@@ -9,7 +10,12 @@ use Rattle.automata.proofs.Dimension.{dimension-unique, dimension-of}
 use Rattle.automata.proofs.FirstDifference.{difference-none, difference-some, none-difference, some-difference}
 use Rattle.record.specs.Record.{lettersOf, WellFormed, automatonOf, languageOf}
 use Rattle.record.specs.Claims.{HasDimension, Operands}
+use Rattle.record.specs.Outcome.{answerOf, bufferOf, fit}
+use Rattle.record.specs.declared.Written.{Written}
+use Rattle.record.specs.declared.Written.the-variants.{Done}
+use Rattle.record.proofs.Outcome.{fit-bytes}
 use Rattle.operands.proofs.PairLaws.{both-pass}
+use Rattle.operands.proofs.Numbers.{pairNumbers}
 use Rattle.compare.specs.Compare.{differenceOf, sideOf, Differ}
 use Rattle.compare.proofs.CompareLaws.{clash}
 use Rattle.compare.proofs.Claims.{accepted, side-named}
@@ -18,9 +24,10 @@ use Rattle.script.proofs.Parts.{whole-stands}
 use Rattle.lines.specs.Lines.{keyLine, sameLine, differLine}
 use Rattle.walk.specs.Walk.{placeOf}
 use Rattle.marking.specs.Marking.{maxScript, dimensionIn, keyRecordLine, answerLine, keyOf, partLine, markLine}
-use Rattle.marking.specs.Told.{RecordAt, KeyTold, AnswerTold, Told}
+use Rattle.marking.specs.Told.{RecordAt, KeyTold, AnswerTold, Told, Marks, SaysRefused}
 use Rattle.marking.proofs.Cases.{key-good, record-key, record-answer, line-part}
 use Rattle.marking.proofs.Verdicts.{answer-same, answer-differs}
+use Rattle.marking.proofs.Refusals.{mark-refusals}
 use Rattle.lines.proofs.Readable.{dim-injective, differ-injective, not-both}
 
 -- The dimension of a record is the one that its lines show.
@@ -100,3 +107,11 @@ told s index line short e = record {
   key = λ key z r good. key-told key line good (e ∙ key-line s index key short z r);
   answer = λ key answer more k r p. answer-told index key answer line p (e ∙ answer-line s index key answer short (λ z. omega arith) k r);
 }
+
+-- What the service claims follows from the answer and the buffer.
+pub marks : (s : List ℕ) (index : ℕ) (buf exit : List ℕ) (r : Written) → r ≡ answerOf (fit (length buf) (markLine s index)) → exit ≡ bufferOf (fit (length buf) (markLine s index)) buf
+    → Marks s index exit r × SaysRefused pairNumbers exit r
+marks s index buf exit r answer buffer = (λ short n e. told s index (take n exit) short (line n e), λ n e i k p q. mark-refusals s index i k p (sym (line n e) ∙ q))
+  where
+    line : (n : ℕ) → r ≡ Done n → take n exit ≡ markLine s index
+    line n e = ap (take n) buffer ∙ fit-bytes (length buf) n (markLine s index) buf (sym answer ∙ e)

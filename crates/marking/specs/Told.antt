@@ -5,10 +5,13 @@
 --                                     that just one of the two accepts, and the one named accepts it; its dimension is the answer's own
 --   Told s index line                 both, for the record of an index
 --   Marks s index exit r              what is claimed of the marking service's answer r and the buffer at exit
+--   RefusedWith ns line               where a line says `refused`, its number is one of ns
+--   SaysRefused ns exit r             the same of the line that the service's answer r grants
 use mathlib.Core.Path.{_≡_}
 use mathlib.Core.List.{List}
 use Prim.Native.Nat.{ℕ, _<_, _≤_}
 use lib.ListN.{length, take}
+use Rattle.automata.specs.Count.{Member}
 use Rattle.record.specs.Record.{WellFormed}
 use Rattle.record.specs.Claims.{HasDimension, Operands, SameWords}
 use Rattle.record.specs.declared.Written.{Written}
@@ -17,7 +20,7 @@ use Rattle.compare.specs.Compare.{Differ}
 use Rattle.compare.specs.declared.Side.{Side}
 use Rattle.script.specs.Script.{partAt, bytesAt}
 use Rattle.script.specs.declared.Part.the-variants.{Whole}
-use Rattle.lines.specs.Lines.{keyLine, sameLine, differLine}
+use Rattle.lines.specs.Lines.{refusedLine, keyLine, sameLine, differLine}
 use Rattle.walk.specs.Walk.{placeOf}
 use Rattle.marking.specs.Marking.{maxScript}
 
@@ -45,3 +48,10 @@ pub record Told (s : List ℕ) (index : ℕ) (line : List ℕ) : Type 0 where
 -- Of the marking service, for a script that is not too long: where the answer grants, the line written tells it.
 abbrev pub Marks : List ℕ → ℕ → List ℕ → Written → Type 0
 Marks s index exit r = length s ≤ maxScript → (n : ℕ) → r ≡ Done n → Told s index (take n exit)
+
+abbrev pub RefusedWith : List ℕ → List ℕ → Type 0
+RefusedWith ns line = (index number place : ℕ) → line ≡ refusedLine index number place → Member number ns
+
+-- Of the marking service, whatever the script.
+abbrev pub SaysRefused : List ℕ → List ℕ → Written → Type 0
+SaysRefused ns exit r = (n : ℕ) → r ≡ Done n → RefusedWith ns (take n exit)

@@ -1,5 +1,6 @@
 // Marking a script: the line of each of its records, and the marking service.
 ghost use mathlib.Core.Path.{_≡_};
+ghost use mathlib.Core.List.{[], _∷_};
 ghost use Prim.Native.Nat.{_≤_, _<_};
 ghost use lib.ListN.{length};
 ghost use Rattle.record.specs.Record.{WellFormed};
@@ -7,7 +8,7 @@ ghost use Rattle.record.specs.Outcome.{fit, answerOf, bufferOf, answerIn, buffe
 ghost use Rattle.script.specs.Script.{partAt};
 ghost use Rattle.lines.specs.Lines.{longest, Begins};
 ghost use Rattle.marking.specs.Marking.{dimensionIn, keyRecordLine, answerLine, recordLine, partLine, lineAt, markLine, markOutcome};
-ghost use Rattle.marking.specs.Told.{Marks};
+ghost use Rattle.marking.specs.Told.{Marks, SaysRefused};
 use compare::Compared;
 use record::Checked;
 use record::Written;
@@ -120,11 +121,13 @@ pub fn line_at(script: &[u8], index: usize, at: usize, out: &mut [u8]) -> Writte
 // `claims`: for each record of a script that is not too long, the line tells of all its words what 01 asks. The key's line has the
 // dimension of its language. An answer's line says `same` exactly when the key accepts the same words; otherwise its word is the
 // first in shortlex order that just one of the two accepts, the one named accepts it, and the dimension is the answer's own.
+// `refusals`: a line says `refused` only with these numbers.
 pub fn mark(script: &[u8], index: usize, out: &mut [u8]) -> Written
     ensures answer { λ r. ⌜ r ≡ answerIn (markOutcome (now (script .entry)) index) (now (out .entry)) ⌝ }
     ensures buffer { λ _. ⌜ now (out .exit) ≡ bufferIn (markOutcome (now (script .entry)) index) (now (out .entry)) ⌝ }
     ensures room { λ _. ⌜ length (markLine (now (script .entry)) index) ≤ longest ⌝ }
     ensures claims { λ r. ⌜ Marks (now (script .entry)) index (now (out .exit)) r ⌝ }
+    ensures refusals { λ r. ⌜ SaysRefused (1 ∷ 2 ∷ 3 ∷ 4 ∷ 5 ∷ 6 ∷ 7 ∷ 8 ∷ []) (now (out .exit)) r ⌝ }
 {
     let at = walk::place(script, index);
     line_at(script, index, at, out)

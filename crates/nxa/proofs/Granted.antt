@@ -1,121 +1,119 @@
--- Number 0 grants: no refusal has it, so a host reads the answer off the reply.
+-- Which numbers a reply can have: 0, which grants, and those of the service's refusals, among which is no 0. So a host reads the answer
+-- off the reply.
 use mathlib.Core.Path.{_≡_, refl, sym, ap, subst, _∙_}
-use mathlib.Core.Bool.{Bool, true, false, cond}
-use mathlib.Core.List.{List}
-use Prim.Native.Nat.{ℕ, _≤_}
+use mathlib.Core.Bool.{Bool, true, false, not}
+use mathlib.Core.Logic.{inl, inr}
+use mathlib.Core.List.{List, [], _∷_, _++_}
+use Prim.Native.Nat.{ℕ}
 use native.Mathlib.Omega.{arith}
 use borrow.Author.Tests.{ne-eqb}
 use lib.Dec.{ltb, eqb}
-use lib.ListN.{length}
-use Rattle.record.specs.Record.{lettersOf, checkOf, WellFormed}
-use Rattle.record.specs.Outcome.{Outcome, refused, wrote, answerOf, checked, fit}
+use Rattle.automata.specs.Count.{Member}
+use Rattle.automata.specs.WordList.{allOf}
+use Rattle.record.specs.Record.{checkOf, WellFormed, recordAccepts}
+use Rattle.record.specs.Outcome.{Outcome, refused, wrote, answerOf, fit, rewriteOf}
 use Rattle.record.specs.declared.Checked.{Checked}
 use Rattle.record.specs.declared.Checked.the-variants.{Good, Refused}
 use Rattle.record.specs.declared.Written.{Written}
-use Rattle.record.proofs.Numbers.{From, check-numbered}
-use Rattle.operands.specs.Operands.{named, pairOf, afterPair}
-use Rattle.operands.specs.declared.Pair.{Pair}
-use Rattle.operands.specs.declared.Pair.the-variants.{Both, Refused as NotBoth}
+use Rattle.record.proofs.Numbers.{not-member, Numbered, checkNumbers, check-numbers, Among, row-among, fit-among, checked-among}
+use Rattle.testing.specs.Testing.{testedOf, testOf}
+use Rattle.testing.specs.declared.Tested.{Tested}
 use Rattle.minimal.specs.Minimal.{minimalBytes, minimalOutcome, minimisedAs}
 use Rattle.minimal.specs.declared.Minimised.{Minimised}
-use Rattle.replies.specs.declared.Reply.{Reply}
 use Rattle.catalogue.specs.Entries.{last, recordOf, catalogueOf}
 use Rattle.marking.specs.Marking.{markLine, markOutcome}
-use Rattle.replies.specs.Reply.{ofChecked, ofWritten, ofMinimised, writtenIn, minimisedIn}
+use Rattle.replies.specs.declared.Reply.{Reply}
+use Rattle.replies.specs.Reply.{ofChecked, ofWritten, ofTested, ofMinimised, NumberIn, writtenIn, testedIn, minimisedIn}
+
+-- ---- no refusal has number 0
+
+abbrev pub NoZero : List ℕ → Type 0
+NoZero ns = allOf (λ n. not (eqb n 0)) ns ≡ true
+
+pub not-zero : (ns : List ℕ) (k : ℕ) → NoZero ns → Member k ns → eqb k 0 ≡ false
+not-zero ns k e m = ne-eqb k 0 (λ z. not-member ns 0 e (subst (λ x. Member x ns) z m))
 
 -- ---- the record check
 
-good-numbered : (c : Checked) → From 1 c → ofChecked c .number ≡ 0 → c ≡ Good
-good-numbered Good n e = refl
-good-numbered (Refused code place) n e = absurd (omega (arith, n code place refl))
-
 module _ (bs : List ℕ) (r : Reply) (told : r ≡ ofChecked (checkOf bs)) where
+  pub check-number : NumberIn (0 ∷ checkNumbers) r
+  check-number = subst (NumberIn (0 ∷ checkNumbers)) (sym told) (go (checkOf bs) (check-numbers bs))
+    where
+      go : (c : Checked) → Numbered (λ k. Member k checkNumbers) c → NumberIn (0 ∷ checkNumbers) (ofChecked c)
+      go Good n = inl refl
+      go (Refused number place) n = inr (n number place refl)
+
   pub check-granted : r .number ≡ 0 → WellFormed bs
-  check-granted e = good-numbered (checkOf bs) (check-numbered bs) (sym (ap (λ x. x .number) told) ∙ e)
+  check-granted e = go (checkOf bs) (check-numbers bs) (sym (ap (λ x. x .number) told) ∙ e)
+    where
+      go : (c : Checked) → Numbered (λ k. Member k checkNumbers) c → ofChecked c .number ≡ 0 → c ≡ Good
+      go Good n z = refl
+      go (Refused number place) n z = absurd (not-member checkNumbers 0 refl (subst (λ k. Member k checkNumbers) z (n number place refl)))
 
   pub check-grants : WellFormed bs → r .number ≡ 0
   check-grants e = ap (λ x. x .number) told ∙ ap (λ c. ofChecked c .number) e
 
--- ---- services that write
+-- ---- the numbers of services that write
 
-abbrev pub Reasoned : Outcome → Type 0
-Reasoned (refused code which place) = 1 ≤ code
-Reasoned (wrote out) = Unit {0}
+abbrev pub rewriteNumbers : List ℕ
+rewriteNumbers = checkNumbers ++ (12 ∷ [])
 
-pub checked-reasoned : (c : Checked) (which : ℕ) (rest : Outcome) → From 1 c → Reasoned rest → Reasoned (checked c which rest)
-checked-reasoned Good which rest n r = r
-checked-reasoned (Refused code place) which rest n r = n code place refl
+pub rewrite-among : (bs : List ℕ) (room : ℕ) → Among rewriteNumbers (rewriteOf bs room)
+unfolding rewriteOf
+rewrite-among bs room = checked-among bs 1 (fit room bs) (12 ∷ []) (λ good. fit-among room bs)
 
-pub fit-reasoned : (room : ℕ) (out : List ℕ) → Reasoned (fit room out)
-unfolding fit
-fit-reasoned room out = go (ltb room (length out))
-  where
-    go : (b : Bool) → Reasoned (cond b (refused 12 0 (length out)) (wrote out))
-    go true = omega arith
-    go false = tt
+abbrev pub minimalNumbers : List ℕ
+minimalNumbers = checkNumbers ++ (12 ∷ [])
 
-pub row-reasoned : (b : Bool) (number which place : ℕ) (rest : Outcome) → 1 ≤ number → Reasoned rest → Reasoned (cond b (refused number which place) rest)
-row-reasoned true number which place rest h r = h
-row-reasoned false number which place rest h r = r
-
--- The checks of two records.
-abbrev Paired : Pair → Type 0
-Paired Both = Unit {0}
-Paired (NotBoth code which place) = 1 ≤ code
-
-named-paired : (c : Checked) (which : ℕ) (rest : Pair) → From 1 c → Paired rest → Paired (named c which rest)
-named-paired Good which rest n r = r
-named-paired (Refused code place) which rest n r = n code place refl
-
-pair-paired : (bs cs : List ℕ) → Paired (pairOf bs cs)
-unfolding pairOf
-pair-paired bs cs =
-    named-paired (checkOf bs) 1 _ (check-numbered bs)
-    (named-paired (checkOf cs) 2 _ (check-numbered cs) (go (eqb (lettersOf bs) (lettersOf cs))))
-  where
-    go : (b : Bool) → Paired (cond b Both (NotBoth 8 2 6))
-    go true = tt
-    go false = omega arith
-
-after-reasoned : (p : Pair) (rest : Outcome) → Paired p → Reasoned rest → Reasoned (afterPair p rest)
-after-reasoned Both rest h r = r
-after-reasoned (NotBoth code which place) rest h r = h
-
-pub pair-reasoned : (bs cs : List ℕ) (rest : Outcome) → Reasoned rest → Reasoned (afterPair (pairOf bs cs) rest)
-pair-reasoned bs cs rest r = after-reasoned (pairOf bs cs) rest (pair-paired bs cs) r
-
-pub minimal-reasoned : (bs : List ℕ) (room : ℕ) → Reasoned (minimalOutcome bs room)
+pub minimal-among : (bs : List ℕ) (room : ℕ) → Among minimalNumbers (minimalOutcome bs room)
 unfolding minimalOutcome
-minimal-reasoned bs room = checked-reasoned (checkOf bs) 1 _ (check-numbered bs) (fit-reasoned room (minimalBytes bs))
+minimal-among bs room = checked-among bs 1 _ (12 ∷ []) (λ good. fit-among room (minimalBytes bs))
 
-pub mark-reasoned : (s : List ℕ) (index room : ℕ) → Reasoned (markOutcome s index room)
+abbrev pub markNumbers : List ℕ
+markNumbers = 12 ∷ []
+
+pub mark-among : (s : List ℕ) (index room : ℕ) → Among markNumbers (markOutcome s index room)
 unfolding markOutcome
-mark-reasoned s index room = fit-reasoned room (markLine s index)
+mark-among s index room = fit-among room (markLine s index)
 
-pub catalogue-reasoned : (number room : ℕ) → Reasoned (catalogueOf number room)
+abbrev pub catalogueNumbers : List ℕ
+catalogueNumbers = 13 ∷ 12 ∷ []
+
+pub catalogue-among : (number room : ℕ) → Among catalogueNumbers (catalogueOf number room)
 unfolding catalogueOf
-catalogue-reasoned j room = row-reasoned (ltb last j) 13 0 j (fit room (recordOf j)) (omega arith) (fit-reasoned room (recordOf j))
+catalogue-among j room = row-among (ltb last j) 13 0 j (fit room (recordOf j)) (12 ∷ []) (fit-among room (recordOf j))
 
 -- ---- the answer that a host reads off a reply
 
-pub not-zero : (code : ℕ) → 1 ≤ code → eqb code 0 ≡ false
-not-zero code h = ne-eqb code 0 (λ e. omega arith)
+-- Of an answer x: it is the one that is read off its reply, and the reply's number is 0 or one of ns.
+abbrev pub Readable : {X : Type 0} → (X → Reply) → (Reply → X) → List ℕ → X → Type 0
+Readable of back ns x = (back (of x) ≡ x) × NumberIn (0 ∷ ns) (of x)
 
-pub written-back : (o : Outcome) (w : Written) → Reasoned o → w ≡ answerOf o → writtenIn (ofWritten w) ≡ w
-written-back o w h e = subst (λ x. writtenIn (ofWritten x) ≡ x) (sym e) (go o h)
+pub written-readable : (ns : List ℕ) → NoZero ns → (o : Outcome) (w : Written) → Among ns o → w ≡ answerOf o → Readable ofWritten writtenIn ns w
+written-readable ns z o w h e = subst (Readable ofWritten writtenIn ns) (sym e) (go o h)
   where
-    go : (o : Outcome) → Reasoned o → writtenIn (ofWritten (answerOf o)) ≡ answerOf o
-    go (refused code which place) h = rw (not-zero code h)
-    go (wrote out) h = refl
+    go : (o : Outcome) → Among ns o → Readable ofWritten writtenIn ns (answerOf o)
+    go (refused number which place) m = (rw (not-zero ns number z m), inr m)
+    go (wrote out) m = (refl, inl refl)
 
-pub minimised-back : (o : Outcome) (d : ℕ) (m : Minimised) → Reasoned o → m ≡ minimisedAs d (answerOf o) → minimisedIn (ofMinimised m) ≡ m
-minimised-back o d m h e = subst (λ x. minimisedIn (ofMinimised x) ≡ x) (sym e) (go o h)
+pub minimised-readable : (ns : List ℕ) → NoZero ns → (o : Outcome) (d : ℕ) (m : Minimised) → Among ns o → m ≡ minimisedAs d (answerOf o) → Readable ofMinimised minimisedIn ns m
+minimised-readable ns z o d m h e = subst (Readable ofMinimised minimisedIn ns) (sym e) (go o h)
   where
-    go : (o : Outcome) → Reasoned o → minimisedIn (ofMinimised (minimisedAs d (answerOf o))) ≡ minimisedAs d (answerOf o)
-    go (refused code which place) h = rw (not-zero code h)
-    go (wrote out) h = refl
+    go : (o : Outcome) → Among ns o → Readable ofMinimised minimisedIn ns (minimisedAs d (answerOf o))
+    go (refused number which place) m = (rw (not-zero ns number z m), inr m)
+    go (wrote out) m = (refl, inl refl)
 
--- An export promises what its service does, its claims of the answer that a host reads off the reply.
-pub told : {X : Type 0} (of : X → Reply) (back : Reply → X) (x y : X) (r : Reply) (Buffer : Type 0) (Claims : X → Type 0)
-    → r ≡ of x → back (of x) ≡ x → (x ≡ y) × (Buffer × Claims x) → (r ≡ of y) × (Buffer × Claims (back r))
-told of back x y r Buffer Claims e b p = (e ∙ ap of (p .0), (p .1 .0, subst Claims (sym (ap back e ∙ b)) (p .1 .1)))
+pub tested-readable : (bs w : List ℕ) (t : Tested) → t ≡ testOf bs w → Readable ofTested testedIn checkNumbers t
+unfolding testOf
+tested-readable bs w t e = subst (Readable ofTested testedIn checkNumbers) (sym e) (go (checkOf bs) (check-numbers bs) (recordAccepts bs w))
+  where
+    go : (c : Checked) → Numbered (λ k. Member k checkNumbers) c → (b : Bool) → Readable ofTested testedIn checkNumbers (testedOf c b)
+    go Good n true = (refl, inl refl)
+    go Good n false = (refl, inl refl)
+    go (Refused number place) n b = let m = n number place refl in (rw (not-zero checkNumbers number refl m), inr m)
+
+-- An export promises what its service does, its claims of the answer that a host reads off the reply, and its numbers.
+pub told : {X : Type 0} (of : X → Reply) (back : Reply → X) (ns : List ℕ) (x y : X) (r : Reply) (Buffer : Type 0) (Claims : X → Type 0)
+    → r ≡ of x → Readable of back ns x → (x ≡ y) × (Buffer × Claims x) → (r ≡ of y) × (NumberIn (0 ∷ ns) r × (Buffer × Claims (back r)))
+told of back ns x y r Buffer Claims e b p =
+    (e ∙ ap of (p .0), (subst (NumberIn (0 ∷ ns)) (sym e) (b .1), (p .1 .0, subst Claims (sym (ap back e ∙ b .0)) (p .1 .1))))

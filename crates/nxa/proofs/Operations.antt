@@ -1,46 +1,73 @@
--- No refusal of an operation has number 0.
-use mathlib.Core.List.{List, []}
+-- The numbers of the operations' refusals.
+use mathlib.Core.Path.{refl}
+use mathlib.Core.List.{List, [], _∷_, _++_}
 use Prim.Native.Nat.{ℕ, _*_}
 use native.Mathlib.Omega.{arith}
 use lib.Dec.{ltb}
-use Rattle.automata.specs.Automaton.{Automaton}
-use Rattle.automata.specs.MinimalOf.{minimalOf, dimensionOf}
-use Rattle.automata.specs.Operations.{sumOf, meetOf, concatenationOf, starOf}
-use Rattle.record.specs.Record.{maxStates, lettersOf, checkOf, automatonOf, languageOf, encode}
-use Rattle.record.proofs.Numbers.{check-numbered}
-use Rattle.results.specs.Results.{resultOf}
-use Rattle.operations.specs.Operations.{sumOutcome, productOutcome, unaryOf, unaryOutcome}
-use Rattle.operations.specs.declared.Unary.{Unary}
+use Rattle.automata.specs.MinimalOf.{dimensionOf}
+use Rattle.automata.specs.Operations.{sumOf, meetOf, complementOf, mirrorOf, concatenationOf, starOf}
+use Rattle.automata.proofs.Dimension.{dimension-least}
+use Rattle.record.specs.Record.{lettersOf, automatonOf, languageOf}
+use Rattle.record.proofs.Refusals.{good-check}
+use Rattle.record.proofs.Numbers.{checkNumbers, Among, row-among, checked-among}
+use Rattle.operands.proofs.Numbers.{pairNumbers, pair-among}
+use Rattle.results.proofs.ResultLaws.{result-among, result-fits}
+use Rattle.operations.specs.Operations.{sumOutcome, productOutcome, unaryOutcome, complementOutcome, mirrorOutcome}
 use Rattle.intersection.specs.Meet.{maxProduct, meetOutcome}
 use Rattle.star.specs.Star.{starOutcome}
-use Rattle.nxa.proofs.Granted.{Reasoned, fit-reasoned, row-reasoned, checked-reasoned, pair-reasoned}
 
-result-reasoned : (a : ℕ) (A : Automaton) (room : ℕ) → Reasoned (resultOf a A room)
-unfolding resultOf
-result-reasoned a A room =
-    row-reasoned (ltb maxStates (dimensionOf a A)) 11 0 (dimensionOf a A) _ (omega arith) (fit-reasoned room (encode a (minimalOf a A)))
+-- Rows 11 and 12.
+abbrev resultNumbers : List ℕ
+resultNumbers = 11 ∷ 12 ∷ []
 
-pub sum-reasoned : (bs cs : List ℕ) (room : ℕ) → Reasoned (sumOutcome bs cs room)
+abbrev pub sumNumbers : List ℕ
+sumNumbers = pairNumbers ++ resultNumbers
+
+pub sum-among : (bs cs : List ℕ) (room : ℕ) → Among sumNumbers (sumOutcome bs cs room)
 unfolding sumOutcome
-sum-reasoned bs cs room = pair-reasoned bs cs _ (result-reasoned (lettersOf bs) (sumOf (automatonOf bs) (automatonOf cs)) room)
+sum-among bs cs room = pair-among bs cs _ resultNumbers (result-among (lettersOf bs) (sumOf (automatonOf bs) (automatonOf cs)) room)
 
-pub unary-reasoned : (k : Unary) (bs : List ℕ) (room : ℕ) → Reasoned (unaryOutcome k bs room)
-unfolding unaryOutcome
-unary-reasoned k bs room = checked-reasoned (checkOf bs) 1 _ (check-numbered bs) (result-reasoned (lettersOf bs) (unaryOf k (automatonOf bs)) room)
+abbrev pub productNumbers : List ℕ
+productNumbers = pairNumbers ++ resultNumbers
 
-pub meet-reasoned : (bs cs : List ℕ) (room : ℕ) → Reasoned (meetOutcome bs cs room)
-unfolding meetOutcome
-meet-reasoned bs cs room =
-    let d = dimensionOf (lettersOf bs) (automatonOf bs) * dimensionOf (lettersOf bs) (automatonOf cs) in
-    pair-reasoned bs cs _
-    (row-reasoned (ltb maxProduct d) 10 0 d _ (omega arith) (result-reasoned (lettersOf bs) (meetOf (automatonOf bs) (automatonOf cs)) room))
-
-pub product-reasoned : (bs cs : List ℕ) (room : ℕ) → Reasoned (productOutcome bs cs room)
+pub product-among : (bs cs : List ℕ) (room : ℕ) → Among productNumbers (productOutcome bs cs room)
 unfolding productOutcome
-product-reasoned bs cs room = pair-reasoned bs cs _ (result-reasoned (lettersOf bs) (concatenationOf (automatonOf bs) (automatonOf cs)) room)
+product-among bs cs room = pair-among bs cs _ resultNumbers (result-among (lettersOf bs) (concatenationOf (automatonOf bs) (automatonOf cs)) room)
 
-pub star-reasoned : (bs : List ℕ) (room : ℕ) → Reasoned (starOutcome bs room)
+abbrev pub meetNumbers : List ℕ
+meetNumbers = pairNumbers ++ (10 ∷ resultNumbers)
+
+pub meet-among : (bs cs : List ℕ) (room : ℕ) → Among meetNumbers (meetOutcome bs cs room)
+unfolding meetOutcome
+meet-among bs cs room =
+    let d = dimensionOf (lettersOf bs) (automatonOf bs) * dimensionOf (lettersOf bs) (automatonOf cs) in
+    pair-among bs cs _ (10 ∷ resultNumbers)
+    (row-among (ltb maxProduct d) 10 0 d _ resultNumbers (result-among (lettersOf bs) (meetOf (automatonOf bs) (automatonOf cs)) room))
+
+abbrev pub complementNumbers : List ℕ
+complementNumbers = checkNumbers ++ resultNumbers
+
+pub complement-among : (bs : List ℕ) (room : ℕ) → Among complementNumbers (complementOutcome bs room)
+unfolding unaryOutcome
+complement-among bs room = checked-among bs 1 _ resultNumbers (λ good. result-among (lettersOf bs) (complementOf (automatonOf bs)) room)
+
+-- The mirror of a record has as many states as the record, and so no dimension over 32: no row 11.
+abbrev pub mirrorNumbers : List ℕ
+mirrorNumbers = checkNumbers ++ (12 ∷ [])
+
+pub mirror-among : (bs : List ℕ) (room : ℕ) → Among mirrorNumbers (mirrorOutcome bs room)
+unfolding unaryOutcome
+mirror-among bs room =
+    checked-among bs 1 _ (12 ∷ [])
+    (λ good.
+    let m = mirrorOf (automatonOf bs) in
+    result-fits (lettersOf bs) m room (omega (arith, dimension-least (lettersOf bs) m m (λ w ow. refl), good-check bs good .front .states)))
+
+abbrev pub starNumbers : List ℕ
+starNumbers = checkNumbers ++ (14 ∷ resultNumbers)
+
+pub star-among : (bs : List ℕ) (room : ℕ) → Among starNumbers (starOutcome bs room)
 unfolding starOutcome
-star-reasoned bs room =
-    checked-reasoned (checkOf bs) 1 _ (check-numbered bs)
-    (row-reasoned (languageOf bs []) 14 1 0 _ (omega arith) (result-reasoned (lettersOf bs) (starOf (automatonOf bs)) room))
+star-among bs room =
+    checked-among bs 1 _ (14 ∷ resultNumbers)
+    (λ good. row-among (languageOf bs []) 14 1 0 _ resultNumbers (result-among (lettersOf bs) (starOf (automatonOf bs)) room))

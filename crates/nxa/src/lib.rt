@@ -1,11 +1,13 @@
-// The C interface: one export for each service. Each takes numbers and byte slices and replies with five numbers.
+// The C interface: one export for each service. Each takes numbers and byte slices and replies with five numbers. `numbers`, of each: all
+// that the reply's number can be, 0 first, then the refusals in the order of the checks.
 ghost use mathlib.Core.Path.{_≡_};
+ghost use mathlib.Core.List.{[], _∷_};
 ghost use Prim.Native.Nat.{_≤_};
 ghost use lib.ListN.{length};
 ghost use Rattle.record.specs.Record.{checkOf, WellFormed};
 ghost use Rattle.record.specs.Outcome.{answerIn, bufferIn, rewriteOf};
 ghost use Rattle.operands.specs.Meant.{asMeant};
-ghost use Rattle.testing.specs.Testing.{testOf};
+ghost use Rattle.testing.specs.Testing.{testOf, Tests};
 ghost use Rattle.minimal.specs.Minimal.{minimalOutcome, minimalAnswer, GivesMinimal};
 ghost use Rattle.compare.specs.Compare.{compareOutcome, compareAnswer, Compares};
 ghost use Rattle.operations.specs.Operations.{sumOutcome, productOutcome, complementOutcome, mirrorOutcome, Sums, GivesProduct, Complements, Mirrors};
@@ -13,15 +15,16 @@ ghost use Rattle.intersection.specs.Meet.{meetOutcome, Meets};
 ghost use Rattle.star.specs.Star.{starOutcome, GivesStar};
 ghost use Rattle.lines.specs.Lines.{longest};
 ghost use Rattle.marking.specs.Marking.{markLine, markOutcome};
-ghost use Rattle.marking.specs.Told.{Marks};
+ghost use Rattle.marking.specs.Told.{Marks, SaysRefused};
 ghost use Rattle.catalogue.specs.Entries.{catalogueOf, GivesEntry};
-ghost use Rattle.replies.specs.Reply.{ofChecked, ofWritten, ofTested, ofMinimised, ofCompared, writtenIn, minimisedIn, comparedIn};
+ghost use Rattle.replies.specs.Reply.{ofChecked, ofWritten, ofTested, ofMinimised, ofCompared, NumberIn, writtenIn, testedIn, minimisedIn, comparedIn};
 use replies::Reply;
 
 // Checks a record. Number 0 comes exactly where it is well formed.
 #[no_mangle]
 pub extern "C" fn nxa_check(record: &[u8]) -> Reply
     ensures reply { λ r. ⌜ r ≡ ofChecked (checkOf (now («record» .entry))) ⌝ }
+    ensures numbers { λ r. ⌜ NumberIn (0 ∷ 1 ∷ 2 ∷ 3 ∷ 4 ∷ 5 ∷ 6 ∷ 7 ∷ []) r ⌝ }
     ensures granted { λ r. ⌜ (r .number ≡ 0 → WellFormed (now («record» .entry))) × (WellFormed (now («record» .entry)) → r .number ≡ 0) ⌝ }
 {
     replies::of_checked(record::check(record))
@@ -31,15 +34,19 @@ pub extern "C" fn nxa_check(record: &[u8]) -> Reply
 #[no_mangle]
 pub extern "C" fn nxa_rewrite(record: &[u8], out: &mut [u8]) -> Reply
     ensures reply { λ r. ⌜ r ≡ ofWritten (answerIn (rewriteOf (now («record» .entry))) (now (out .entry))) ⌝ }
+    ensures numbers { λ r. ⌜ NumberIn (0 ∷ 1 ∷ 2 ∷ 3 ∷ 4 ∷ 5 ∷ 6 ∷ 7 ∷ 12 ∷ []) r ⌝ }
     ensures buffer { λ _. ⌜ now (out .exit) ≡ bufferIn (rewriteOf (now («record» .entry))) (now (out .entry)) ⌝ }
 {
     replies::of_written(codec::rewrite(record, out))
 }
 
-// Tests a word. Value 1: the record accepts it.
+// Tests a word. Value 1: the record accepts it. `claims`: number 0 and value 1 come exactly where the record is well formed, every letter of
+// the word is below a, and the path count is odd; a word with a letter outside the alphabet, wherever it comes, is not accepted.
 #[no_mangle]
 pub extern "C" fn nxa_test(record: &[u8], word: &[u8]) -> Reply
-    ensures { λ r. ⌜ r ≡ ofTested (testOf (now («record» .entry)) (now (word .entry))) ⌝ }
+    ensures reply { λ r. ⌜ r ≡ ofTested (testOf (now («record» .entry)) (now (word .entry))) ⌝ }
+    ensures numbers { λ r. ⌜ NumberIn (0 ∷ 1 ∷ 2 ∷ 3 ∷ 4 ∷ 5 ∷ 6 ∷ 7 ∷ []) r ⌝ }
+    ensures claims { λ r. ⌜ Tests (now («record» .entry)) (now (word .entry)) (testedIn r) ⌝ }
 {
     replies::of_tested(testing::test(record, word))
 }
@@ -49,6 +56,7 @@ pub extern "C" fn nxa_test(record: &[u8], word: &[u8]) -> Reply
 #[no_mangle]
 pub extern "C" fn nxa_minimal(record: &[u8], out: &mut [u8]) -> Reply
     ensures reply { λ r. ⌜ r ≡ ofMinimised (minimalAnswer (now («record» .entry)) (length (now (out .entry)))) ⌝ }
+    ensures numbers { λ r. ⌜ NumberIn (0 ∷ 1 ∷ 2 ∷ 3 ∷ 4 ∷ 5 ∷ 6 ∷ 7 ∷ 12 ∷ []) r ⌝ }
     ensures buffer { λ _. ⌜ now (out .exit) ≡ bufferIn (minimalOutcome (now («record» .entry))) (now (out .entry)) ⌝ }
     ensures claims { λ r. ⌜ GivesMinimal (now («record» .entry)) (now (out .exit)) (minimisedIn r) ⌝ }
 {
@@ -64,6 +72,7 @@ pub extern "C" fn nxa_minimal(record: &[u8], out: &mut [u8]) -> Reply
 #[no_mangle]
 pub extern "C" fn nxa_compare(first: &[u8], second: &[u8], word: &mut [u8]) -> Reply
     ensures reply { λ r. ⌜ r ≡ ofCompared (asMeant compareAnswer (now (first .entry)) (now (second .entry)) (length (now (word .entry)))) ⌝ }
+    ensures numbers { λ r. ⌜ NumberIn (0 ∷ 1 ∷ 2 ∷ 3 ∷ 4 ∷ 5 ∷ 6 ∷ 7 ∷ 8 ∷ 12 ∷ []) r ⌝ }
     ensures buffer { λ _. ⌜ now (word .exit) ≡ bufferIn (asMeant compareOutcome (now (first .entry)) (now (second .entry))) (now (word .entry)) ⌝ }
     ensures claims { λ r. ⌜ asMeant Compares (now (first .entry)) (now (second .entry)) (now (word .entry)) (now (word .exit)) (comparedIn r) ⌝ }
 {
@@ -76,6 +85,7 @@ pub extern "C" fn nxa_compare(first: &[u8], second: &[u8], word: &mut [u8]) -> R
 #[no_mangle]
 pub extern "C" fn nxa_sum(first: &[u8], second: &[u8], out: &mut [u8]) -> Reply
     ensures reply { λ r. ⌜ r ≡ ofWritten (answerIn (asMeant sumOutcome (now (first .entry)) (now (second .entry))) (now (out .entry))) ⌝ }
+    ensures numbers { λ r. ⌜ NumberIn (0 ∷ 1 ∷ 2 ∷ 3 ∷ 4 ∷ 5 ∷ 6 ∷ 7 ∷ 8 ∷ 11 ∷ 12 ∷ []) r ⌝ }
     ensures buffer { λ _. ⌜ now (out .exit) ≡ bufferIn (asMeant sumOutcome (now (first .entry)) (now (second .entry))) (now (out .entry)) ⌝ }
     ensures claims { λ r. ⌜ asMeant Sums (now (first .entry)) (now (second .entry)) (now (out .exit)) (writtenIn r) ⌝ }
 {
@@ -87,6 +97,7 @@ pub extern "C" fn nxa_sum(first: &[u8], second: &[u8], out: &mut [u8]) -> Reply
 #[no_mangle]
 pub extern "C" fn nxa_meet(first: &[u8], second: &[u8], out: &mut [u8]) -> Reply
     ensures reply { λ r. ⌜ r ≡ ofWritten (answerIn (asMeant meetOutcome (now (first .entry)) (now (second .entry))) (now (out .entry))) ⌝ }
+    ensures numbers { λ r. ⌜ NumberIn (0 ∷ 1 ∷ 2 ∷ 3 ∷ 4 ∷ 5 ∷ 6 ∷ 7 ∷ 8 ∷ 10 ∷ 11 ∷ 12 ∷ []) r ⌝ }
     ensures buffer { λ _. ⌜ now (out .exit) ≡ bufferIn (asMeant meetOutcome (now (first .entry)) (now (second .entry))) (now (out .entry)) ⌝ }
     ensures claims { λ r. ⌜ asMeant Meets (now (first .entry)) (now (second .entry)) (now (out .exit)) (writtenIn r) ⌝ }
 {
@@ -98,6 +109,7 @@ pub extern "C" fn nxa_meet(first: &[u8], second: &[u8], out: &mut [u8]) -> Reply
 #[no_mangle]
 pub extern "C" fn nxa_product(first: &[u8], second: &[u8], out: &mut [u8]) -> Reply
     ensures reply { λ r. ⌜ r ≡ ofWritten (answerIn (asMeant productOutcome (now (first .entry)) (now (second .entry))) (now (out .entry))) ⌝ }
+    ensures numbers { λ r. ⌜ NumberIn (0 ∷ 1 ∷ 2 ∷ 3 ∷ 4 ∷ 5 ∷ 6 ∷ 7 ∷ 8 ∷ 11 ∷ 12 ∷ []) r ⌝ }
     ensures buffer { λ _. ⌜ now (out .exit) ≡ bufferIn (asMeant productOutcome (now (first .entry)) (now (second .entry))) (now (out .entry)) ⌝ }
     ensures claims { λ r. ⌜ asMeant GivesProduct (now (first .entry)) (now (second .entry)) (now (out .exit)) (writtenIn r) ⌝ }
 {
@@ -108,6 +120,7 @@ pub extern "C" fn nxa_product(first: &[u8], second: &[u8], out: &mut [u8]) -> Re
 #[no_mangle]
 pub extern "C" fn nxa_complement(record: &[u8], out: &mut [u8]) -> Reply
     ensures reply { λ r. ⌜ r ≡ ofWritten (answerIn (complementOutcome (now («record» .entry))) (now (out .entry))) ⌝ }
+    ensures numbers { λ r. ⌜ NumberIn (0 ∷ 1 ∷ 2 ∷ 3 ∷ 4 ∷ 5 ∷ 6 ∷ 7 ∷ 11 ∷ 12 ∷ []) r ⌝ }
     ensures buffer { λ _. ⌜ now (out .exit) ≡ bufferIn (complementOutcome (now («record» .entry))) (now (out .entry)) ⌝ }
     ensures claims { λ r. ⌜ Complements (now («record» .entry)) (now (out .exit)) (writtenIn r) ⌝ }
 {
@@ -118,6 +131,7 @@ pub extern "C" fn nxa_complement(record: &[u8], out: &mut [u8]) -> Reply
 #[no_mangle]
 pub extern "C" fn nxa_mirror(record: &[u8], out: &mut [u8]) -> Reply
     ensures reply { λ r. ⌜ r ≡ ofWritten (answerIn (mirrorOutcome (now («record» .entry))) (now (out .entry))) ⌝ }
+    ensures numbers { λ r. ⌜ NumberIn (0 ∷ 1 ∷ 2 ∷ 3 ∷ 4 ∷ 5 ∷ 6 ∷ 7 ∷ 12 ∷ []) r ⌝ }
     ensures buffer { λ _. ⌜ now (out .exit) ≡ bufferIn (mirrorOutcome (now («record» .entry))) (now (out .entry)) ⌝ }
     ensures claims { λ r. ⌜ Mirrors (now («record» .entry)) (now (out .exit)) (writtenIn r) ⌝ }
 {
@@ -129,6 +143,7 @@ pub extern "C" fn nxa_mirror(record: &[u8], out: &mut [u8]) -> Reply
 #[no_mangle]
 pub extern "C" fn nxa_star(record: &[u8], out: &mut [u8]) -> Reply
     ensures reply { λ r. ⌜ r ≡ ofWritten (answerIn (starOutcome (now («record» .entry))) (now (out .entry))) ⌝ }
+    ensures numbers { λ r. ⌜ NumberIn (0 ∷ 1 ∷ 2 ∷ 3 ∷ 4 ∷ 5 ∷ 6 ∷ 7 ∷ 14 ∷ 11 ∷ 12 ∷ []) r ⌝ }
     ensures buffer { λ _. ⌜ now (out .exit) ≡ bufferIn (starOutcome (now («record» .entry))) (now (out .entry)) ⌝ }
     ensures claims { λ r. ⌜ GivesStar (now («record» .entry)) (now (out .exit)) (writtenIn r) ⌝ }
 {
@@ -140,6 +155,7 @@ pub extern "C" fn nxa_star(record: &[u8], out: &mut [u8]) -> Reply
 #[no_mangle]
 pub extern "C" fn nxa_catalogue(number: usize, out: &mut [u8]) -> Reply
     ensures reply { λ r. ⌜ r ≡ ofWritten (answerIn (catalogueOf number) (now (out .entry))) ⌝ }
+    ensures numbers { λ r. ⌜ NumberIn (0 ∷ 13 ∷ 12 ∷ []) r ⌝ }
     ensures buffer { λ _. ⌜ now (out .exit) ≡ bufferIn (catalogueOf number) (now (out .entry)) ⌝ }
     ensures claims { λ r. ⌜ GivesEntry number (now (out .exit)) (writtenIn r) ⌝ }
 {
@@ -152,12 +168,15 @@ pub extern "C" fn nxa_catalogue(number: usize, out: &mut [u8]) -> Reply
 // `claims`: where number is 0, the first `length` bytes of the buffer tell of all words what 01 asks. The key's line has the dimension of
 // its language. An answer's line says `same` exactly when the key accepts the same words; otherwise its word is the first in shortlex
 // order that just one of the two accepts, the one named accepts it, and the dimension is the answer's own.
+// `refusals`: a line says `refused` only with these numbers.
 #[no_mangle]
 pub extern "C" fn nxa_mark(script: &[u8], index: usize, out: &mut [u8]) -> Reply
     ensures reply { λ r. ⌜ r ≡ ofWritten (answerIn (markOutcome (now (script .entry)) index) (now (out .entry))) ⌝ }
+    ensures numbers { λ r. ⌜ NumberIn (0 ∷ 12 ∷ []) r ⌝ }
     ensures buffer { λ _. ⌜ now (out .exit) ≡ bufferIn (markOutcome (now (script .entry)) index) (now (out .entry)) ⌝ }
     ensures room { λ _. ⌜ length (markLine (now (script .entry)) index) ≤ longest ⌝ }
     ensures claims { λ r. ⌜ Marks (now (script .entry)) index (now (out .exit)) (writtenIn r) ⌝ }
+    ensures refusals { λ r. ⌜ SaysRefused (1 ∷ 2 ∷ 3 ∷ 4 ∷ 5 ∷ 6 ∷ 7 ∷ 8 ∷ []) (now (out .exit)) (writtenIn r) ⌝ }
 {
     replies::of_written(marking::mark(script, index, out))
 }

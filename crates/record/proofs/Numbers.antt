@@ -1,25 +1,45 @@
--- The numbers that the record check refuses with: 1 to 7, and 1 only with fewer than 7 bytes.
-use mathlib.Core.Path.{_≡_, refl, sym, subst, _∙_}
-use mathlib.Core.Bool.{Bool, true, false, not, _||_}
-use mathlib.Core.List.{List}
-use Prim.Native.Nat.{ℕ, zero, suc, _+_, _*_, _^_, _≤_, _<_}
+-- The numbers of refusals: those of the record check are 1 to 7, and 1 comes only with fewer than 7 bytes; those of an outcome are the
+-- numbers of its rows.
+use mathlib.Core.Path.{_≡_, refl, sym, ap, subst, _∙_}
+use mathlib.Core.Bool.{Bool, true, false, not, _||_, cond, false≢true}
+use mathlib.Core.Logic.{inl, inr}
+use mathlib.Core.List.{List, [], _∷_, _++_}
+use Prim.Native.Nat.{ℕ, zero, suc, _+_, _*_, _^_, _<_}
 use native.Mathlib.Decide.{decLt}
 use native.Mathlib.Omega.{arith}
 use borrow.Author.Tests.{le-ltb}
 use lib.Dec.{ltb, leb, eqb}
 use lib.ListN.{length, getD}
+use Rattle.automata.specs.Count.{Member}
+use Rattle.automata.specs.WordList.{allOf}
+use Rattle.automata.proofs.Count.{mem-left, mem-right}
+use Rattle.automata.proofs.WordList.{all-of}
+use Rattle.automata.proofs.Xor.{eqb-same}
 use Rattle.record.specs.Bytes.{number}
-use Rattle.record.specs.Record.{version, maxStates, maxLetters, rowBytes, header, initialAt, statesOf, lettersOf, needOf, row, andThen, frontOf, strayFrom, checkOf}
+use Rattle.record.specs.Record.{version, maxStates, maxLetters, rowBytes, header, initialAt, statesOf, lettersOf, needOf, row, andThen, frontOf, strayFrom, checkOf, WellFormed}
+use Rattle.record.specs.Outcome.{Outcome, refused, wrote, checked, fit}
 use Rattle.record.specs.declared.Checked.{Checked}
 use Rattle.record.specs.declared.Checked.the-variants.{Good, Refused}
 use Rattle.record.proofs.Refusals.{short-met, front-met}
 
--- The number of a refusal has a property; it is m or more.
+-- A number that a list has not got is not in it: which, for numbers, is computed.
+pub not-member : (ns : List ℕ) (k : ℕ) → allOf (λ n. not (eqb n k)) ns ≡ true → Member k ns → ⊥
+not-member ns k e m =
+    let z = all-of (λ n. not (eqb n k)) ns e k m in
+    false≢true (sym (ap not (eqb-same k)) ∙ z)
+
+-- ---- the record check
+
+-- The number of a refusal has a property.
 abbrev pub Numbered : (ℕ → Type 0) → Checked → Type 0
 Numbered P c = (k p : ℕ) → c ≡ Refused k p → P k
 
-abbrev pub From : ℕ → Checked → Type 0
-From m = Numbered (λ k. m ≤ k)
+-- The numbers after the first.
+abbrev laterNumbers : List ℕ
+laterNumbers = 2 ∷ 3 ∷ 4 ∷ 5 ∷ 6 ∷ 7 ∷ []
+
+abbrev pub checkNumbers : List ℕ
+checkNumbers = 1 ∷ laterNumbers
 
 module _ (P : ℕ → Type 0) where
   good-numbered : Numbered P Good
@@ -41,30 +61,31 @@ module _ (P : ℕ → Type 0) where
   stray-numbered h w n bs (suc k) p = row-numbered (leb (2 ^ n) (number w bs p)) 7 p (strayFrom w n bs k (p + w)) (λ e. h) (stray-numbered h w n bs k (p + w))
 
   -- 1 where row 1 is met, else 2 to 7.
-  module _ (bs : List ℕ) (one : ltb (length bs) header ≡ true → P 1) (others : (k : ℕ) → 2 ≤ k → k ≤ 7 → P k) where
+  module _ (bs : List ℕ) (one : ltb (length bs) header ≡ true → P 1) (others : (k : ℕ) → Member k laterNumbers → P k) where
     front-numbered : Numbered P (frontOf bs)
     unfolding frontOf
     front-numbered =
         row-numbered (ltb (length bs) header) 1 (length bs) _ one
-        (row-numbered (not (eqb (getD bs 0 0) 0x4E)) 2 0 _ (λ e. others 2 (omega arith) (omega arith))
-        (row-numbered (not (eqb (getD bs 1 0) 0x58)) 2 1 _ (λ e. others 2 (omega arith) (omega arith))
-        (row-numbered (not (eqb (getD bs 2 0) 0x41)) 2 2 _ (λ e. others 2 (omega arith) (omega arith))
-        (row-numbered (not (eqb (number 2 bs 3) version)) 3 3 _ (λ e. others 3 (omega arith) (omega arith))
-        (row-numbered (ltb maxStates (statesOf bs)) 4 5 _ (λ e. others 4 (omega arith) (omega arith))
-        (row-numbered (eqb (lettersOf bs) 0 || ltb maxLetters (lettersOf bs)) 5 6 Good (λ e. others 5 (omega arith) (omega arith)) good-numbered))))))
+        (row-numbered (not (eqb (getD bs 0 0) 0x4E)) 2 0 _ (λ e. others 2 (inl refl))
+        (row-numbered (not (eqb (getD bs 1 0) 0x58)) 2 1 _ (λ e. others 2 (inl refl))
+        (row-numbered (not (eqb (getD bs 2 0) 0x41)) 2 2 _ (λ e. others 2 (inl refl))
+        (row-numbered (not (eqb (number 2 bs 3) version)) 3 3 _ (λ e. others 3 (inr (inl refl)))
+        (row-numbered (ltb maxStates (statesOf bs)) 4 5 _ (λ e. others 4 (inr (inr (inl refl))))
+        (row-numbered (eqb (lettersOf bs) 0 || ltb maxLetters (lettersOf bs)) 5 6 Good (λ e. others 5 (inr (inr (inr (inl refl))))) good-numbered))))))
 
     check-by : Numbered P (checkOf bs)
     unfolding checkOf
     check-by =
         then-numbered (frontOf bs) _ front-numbered
-        (row-numbered (not (eqb (length bs) (needOf bs))) 6 (needOf bs) _ (λ e. others 6 (omega arith) (omega arith))
-        (stray-numbered (others 7 (omega arith) (omega arith)) rowBytes (statesOf bs) bs (2 + lettersOf bs * statesOf bs) initialAt))
+        (row-numbered (not (eqb (length bs) (needOf bs))) 6 (needOf bs) _ (λ e. others 6 (inr (inr (inr (inr (inl refl))))))
+        (stray-numbered (others 7 (inr (inr (inr (inr (inr (inl refl))))))) rowBytes (statesOf bs) bs (2 + lettersOf bs * statesOf bs) initialAt))
 
-pub check-numbered : (bs : List ℕ) → From 1 (checkOf bs)
-check-numbered bs = check-by (λ k. 1 ≤ k) bs (λ e. omega arith) (λ k h g. omega arith)
+module _ (bs : List ℕ) where
+  pub front-numbers : Numbered (λ k. Member k checkNumbers) (frontOf bs)
+  front-numbers = front-numbered (λ k. Member k checkNumbers) bs (λ e. inl refl) (λ k m. inr m)
 
-pub check-last : (bs : List ℕ) → Numbered (λ k. k ≤ 7) (checkOf bs)
-check-last bs = check-by (λ k. k ≤ 7) bs (λ e. omega arith) (λ k h g. g)
+  pub check-numbers : Numbered (λ k. Member k checkNumbers) (checkOf bs)
+  check-numbers = check-by (λ k. Member k checkNumbers) bs (λ e. inl refl) (λ k m. inr m)
 
 -- Refusal 1 exactly with fewer than 7 bytes, its place their number.
 module _ (bs : List ℕ) where
@@ -82,4 +103,34 @@ module _ (bs : List ℕ) where
           (h, cc)
       go (no h) =
           let passed = le-ltb (length bs) header (omega arith) in
-          absurd (omega (arith, check-by (λ k. 2 ≤ k) bs (λ t. let z = sym passed ∙ t in absurd (let y : _≡_ {A = ℕ} 0 1 = cc in omega arith)) (λ k h g. h) 1 place e))
+          absurd (not-member laterNumbers 1 refl (check-by (λ k. Member k laterNumbers) bs (λ t. absurd (false≢true (sym passed ∙ t))) (λ k m. m) 1 place e))
+
+-- ---- outcomes
+
+-- An outcome refuses only with numbers of a list.
+abbrev pub Among : List ℕ → Outcome → Type 0
+Among ns (refused number which place) = Member number ns
+Among ns (wrote out) = Unit {0}
+
+-- A number that is not in the list never comes.
+pub not-among : (ns : List ℕ) (o : Outcome) → Among ns o → (number which place : ℕ) → allOf (λ n. not (eqb n number)) ns ≡ true → o ≡ refused number which place → ⊥
+not-among ns o h number which place e q = not-member ns number e (subst (Among ns) q h)
+
+-- A row, then the rest.
+pub row-among : (b : Bool) (number which place : ℕ) (rest : Outcome) (ns : List ℕ) → Among ns rest → Among (number ∷ ns) (cond b (refused number which place) rest)
+row-among true number which place rest ns h = inl refl
+row-among false number which place (refused code w p) ns h = inr h
+row-among false number which place (wrote out) ns h = tt
+
+pub fit-among : (room : ℕ) (out : List ℕ) → Among (12 ∷ []) (fit room out)
+unfolding fit
+fit-among room out = row-among (ltb room (length out)) 12 0 (length out) (wrote out) [] tt
+
+-- The check of a record, then what follows where it passes.
+pub checked-among : (bs : List ℕ) (which : ℕ) (rest : Outcome) (ns : List ℕ) → (WellFormed bs → Among ns rest) → Among (checkNumbers ++ ns) (checked (checkOf bs) which rest)
+checked-among bs which rest ns h = go (checkOf bs) refl rest h
+  where
+    go : (c : Checked) → checkOf bs ≡ c → (rest : Outcome) → (WellFormed bs → Among ns rest) → Among (checkNumbers ++ ns) (checked c which rest)
+    go (Refused number place) e rest h = mem-left number checkNumbers ns (check-numbers bs number place e)
+    go Good e (refused number w place) h = mem-right number checkNumbers ns (h e)
+    go Good e (wrote out) h = tt

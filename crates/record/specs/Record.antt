@@ -8,6 +8,7 @@
 --   WellFormed bs     the record meets none of their conditions
 --   automatonOf bs    the machine of a well-formed record
 --   languageOf bs     the words that the record accepts
+--   recordAccepts bs  whether the record accepts a word that is tested, which may have letters outside the alphabet
 --   encode a A        the record of an automaton over a letters
 use mathlib.Core.Path.{_≡_}
 use mathlib.Core.Bool.{Bool, true, false, not, _||_}
@@ -16,7 +17,7 @@ use Prim.Native.Nat.{ℕ, zero, suc, _+_, _*_, _^_}
 use lib.ListN.{length, getD, drop}
 use lib.Dec.{ltb, leb, eqb}
 use Rattle.automata.specs.Automaton.{Automaton, accepts}
-use Rattle.automata.specs.Language.{Language}
+use Rattle.automata.specs.Language.{Language, restriction}
 use Rattle.automata.specs.Mask.{bitOf}
 use Rattle.automata.specs.Fields.{fields}
 use Rattle.record.specs.Bytes.{number, allBytes}
@@ -123,6 +124,11 @@ automatonOf bs = record {
 -- The words that the record accepts are those that its machine accepts (01: its language).
 abbrev pub languageOf : List ℕ → Language
 languageOf bs = accepts (automatonOf bs)
+
+-- Every letter of the word is one of the record's, and its path count is odd. A word with any other letter, wherever it comes, is not
+-- accepted (02, Note 3: letters nobody declared). Every service that tests words goes by this.
+abbrev pub recordAccepts : List ℕ → Language
+recordAccepts bs = restriction (lettersOf bs) (languageOf bs)
 
 -- The bytes before the first row: mark, version, n, a.
 abbrev pub headOf : ℕ → ℕ → List ℕ

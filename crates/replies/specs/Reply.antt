@@ -5,12 +5,16 @@
 --   ofTested       the test of a word: value 1 where it is accepted
 --   ofMinimised    the minimal service: the bytes written, and the dimension as value
 --   ofCompared     a comparison: value 0 where the languages are the same, else the record that accepts the word; its letters as length
---   writtenIn      the answer that a host reads off a reply: the inverse of ofWritten, of ofMinimised and of ofCompared on the answers that come
+--   NumberIn ns r  the number of the reply r is one of ns: what a host must be ready for
+--   writtenIn      the answer that a host reads off a reply: the inverse of ofWritten, of ofTested, of ofMinimised and of ofCompared on the
+--   testedIn       answers that come
 --   minimisedIn
 --   comparedIn
 use mathlib.Core.Bool.{cond}
+use mathlib.Core.List.{List}
 use Prim.Native.Nat.{ℕ, zero, suc}
 use lib.Dec.{eqb}
+use Rattle.automata.specs.Count.{Member}
 use Rattle.replies.specs.declared.Reply.{Reply}
 use Rattle.record.specs.declared.Checked.{Checked}
 use Rattle.record.specs.declared.Checked.the-variants.{Good, Refused as NotGood}
@@ -64,11 +68,19 @@ ofCompared Same = reply 0 0 0 0 0
 ofCompared (Differs length side) = reply 0 0 0 length (sideNumber side)
 ofCompared (NotCompared number which place) = refusal number which place
 
+-- The numbers that a service's reply can have stand in its contract, 0 first, then those of its refusals in the order of the checks.
+abbrev pub NumberIn : List ℕ → Reply → Type 0
+NumberIn ns r = Member (r .number) ns
+
 -- ---- the answer behind a reply
 
 -- Number 0 grants.
 abbrev pub writtenIn : Reply → Written
 writtenIn r = cond (eqb (r .number) 0) (Wrote (r .length)) (NotWritten (r .number) (r .«record») (r .place))
+
+-- Value 1 says that the word is accepted.
+abbrev pub testedIn : Reply → Tested
+testedIn r = cond (eqb (r .number) 0) (cond (eqb (r .value) 1) Accepted Rejected) (NotTested (r .number) (r .«record») (r .place))
 
 abbrev pub minimisedIn : Reply → Minimised
 minimisedIn r = cond (eqb (r .number) 0) (Minimal (r .length) (r .value)) (NotMinimised (r .number) (r .«record») (r .place))

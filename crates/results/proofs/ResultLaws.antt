@@ -1,7 +1,7 @@
 -- The minimal record of a result: what is written is minimal for its language, and exactly when a limit refuses.
 use mathlib.Core.Path.{_≡_, refl, sym, ap, ap₂, subst, _∙_}
 use mathlib.Core.Bool.{Bool, true, false, cond}
-use mathlib.Core.List.{List}
+use mathlib.Core.List.{List, [], _∷_}
 use Prim.Native.Nat.{ℕ, _<_, _≤_}
 use native.Mathlib.Decide.{decLt}
 use native.Mathlib.Omega.{arith}
@@ -23,6 +23,7 @@ use Rattle.record.specs.Claims.{MinimalRecord}
 use Rattle.record.specs.Outcome.{Outcome, refused, wrote, answerOf, bufferOf, fit}
 use Rattle.record.specs.declared.Written.{Written}
 use Rattle.record.specs.declared.Written.the-variants.{Done, Refused}
+use Rattle.record.proofs.Numbers.{Among, not-among, row-among, fit-among}
 use Rattle.record.proofs.Encode.{fields-encode}
 use Rattle.record.proofs.Claims.{minimal-encode}
 use Rattle.record.proofs.Outcome.{fit-wrote, outcome-take}
@@ -66,25 +67,17 @@ result-wrote a A room out e = go (decLt maxStates (dimensionOf a A))
     go (yes h) = absurd (not-wrote (sym (if-low maxStates (dimensionOf a A) (refused 11 0 (dimensionOf a A)) (fit room (encode a (minimalOf a A))) h) ∙ e))
     go (no h) = (omega arith, fit-wrote room (encode a (minimalOf a A)) out (sym (if-high maxStates (dimensionOf a A) (refused 11 0 (dimensionOf a A)) (fit room (encode a (minimalOf a A))) (omega arith)) ∙ e))
 
--- Row 12 is the only refusal of a write.
-fit-twelve : (room : ℕ) (bytes : List ℕ) (number which k : ℕ) → fit room bytes ≡ refused number which k → number ≡ 12
-unfolding fit
-fit-twelve room bytes number which k e = go (ltb room (length bytes)) e
-  where
-    go : (b : Bool) → cond b (refused 12 0 (length bytes)) (wrote bytes) ≡ refused number which k → number ≡ 12
-    go true q = cc
-    go false q = absurd (not-wrote (sym q))
+-- The refusals of a result are rows 11 and 12, and where the dimension is not over the limit row 12 alone.
+module _ (a : ℕ) (A : Automaton) (room : ℕ) where
+  pub result-among : Among (11 ∷ 12 ∷ []) (resultOf a A room)
+  unfolding resultOf
+  result-among = row-among (ltb maxStates (dimensionOf a A)) 11 0 (dimensionOf a A) _ (12 ∷ []) (fit-among room (encode a (minimalOf a A)))
 
--- The refusals of a result are rows 11 and 12.
-pub result-number : (a : ℕ) (A : Automaton) (room number which k : ℕ) → resultOf a A room ≡ refused number which k → (11 ≤ number) × (number ≤ 12)
-unfolding resultOf
-result-number a A room number which k e = go (ltb maxStates (dimensionOf a A)) e
-  where
-    go : (b : Bool) → cond b (refused 11 0 (dimensionOf a A)) (fit room (encode a (minimalOf a A))) ≡ refused number which k → (11 ≤ number) × (number ≤ 12)
-    go true q =
-        let z : number ≡ 11 = cc in
-        omega arith
-    go false q = let z = fit-twelve room (encode a (minimalOf a A)) number which k q in omega arith
+  pub result-fits : dimensionOf a A ≤ maxStates → Among (12 ∷ []) (resultOf a A room)
+  unfolding resultOf
+  result-fits h =
+      subst (Among (12 ∷ [])) (sym (if-high maxStates (dimensionOf a A) (refused 11 0 (dimensionOf a A)) (fit room (encode a (minimalOf a A))) h))
+      (fit-among room (encode a (minimalOf a A)))
 
 -- ---- from the answer to what was done
 
@@ -142,7 +135,7 @@ module _ (a : ℕ) (L : Language) (A : Automaton) (same : Same a L (accepts A)) 
   limits : (r : Written) → r ≡ answerOf o → Limits 11 maxStates Passed (IsDimension a L) r
   unfolding resultOf
   limits = limits-of 11 maxStates (dimensionOf a A) (fit (length buf) (encode a (minimalOf a A))) o Passed (IsDimension a L) passed refuses
-      (λ k e. let z = fit-twelve (length buf) (encode a (minimalOf a A)) 11 0 k e in omega arith)
+      (λ k. not-among (12 ∷ []) _ (fit-among (length buf) (encode a (minimalOf a A))) 11 0 k refl)
       (λ p. dimension-accepted a L A same)
       (λ p k m. dimension-unique a L k (dimensionOf a A) m (dimension-accepted a L A same))
 

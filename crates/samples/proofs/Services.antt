@@ -1,17 +1,18 @@
 -- A claim that passes its tests is one of what the services return.
 use mathlib.Core.Path.{_≡_, refl, sym, ap, ap₂, subst, _∙_}
 use mathlib.Core.Bool.{Bool, true, false, not}
-use mathlib.Core.List.{List, [], _∷_}
+use mathlib.Core.List.{List, []}
 use mathlib.Core.Option.{some}
-use Prim.Native.Nat.{ℕ, _+_, _*_}
+use Prim.Native.Nat.{ℕ, _*_}
 use native.Mathlib.Omega.{arith}
 use lib.Dec.{leb}
 use lib.ListN.{length}
-use borrow.Author.Tests.{leb-true, lt-leb, not-true}
+use borrow.Author.Tests.{leb-true, not-true}
 use Rattle.automata.specs.Automaton.{odd, accepts}
-use Rattle.automata.specs.Word.{Over}
+use Rattle.automata.specs.Word.{isOver}
 use Rattle.automata.specs.MinimalOf.{minimalOf, dimensionOf}
 use Rattle.automata.proofs.Span.{and-parts}
+use Rattle.automata.proofs.Restriction.{is-over}
 use Rattle.automata.proofs.Dimension.{dimension-same}
 use Rattle.automata.proofs.Fields.{same-fields}
 use Rattle.rows.proofs.BesideLaws.{if-high}
@@ -25,7 +26,7 @@ use Rattle.operands.specs.Meant.{meantOver}
 use Rattle.operands.specs.Operands.{pairOf, afterPair}
 use Rattle.operands.proofs.PairLaws.{both-passed}
 use Rattle.operands.proofs.MeantLaws.{meant-formed}
-use Rattle.testing.specs.Testing.{foreignFrom, testOf}
+use Rattle.testing.specs.Testing.{testOf}
 use Rattle.minimal.specs.Minimal.{minimalBytes, minimalOutcome}
 use Rattle.minimal.proofs.MinimalLaws.{minimal-bytes}
 use Rattle.compare.specs.Compare.{sideOf, differenceOf, compareOutcome, comparedAs}
@@ -45,12 +46,7 @@ use Rattle.samples.proofs.Meaning.{formed, over, states, own, same, hol
 
 -- ---- the test service
 
-over-foreign : (a : ℕ) (w : List ℕ) (i : ℕ) → Over a w → foreignFrom a w i ≡ Good
-unfolding foreignFrom
-over-foreign a [] i o = refl
-over-foreign a (l ∷ w) i o = rw (lt-leb a l (o .0)) (over-foreign a w (i + 1) (o .1))
-
-tested : (bs w : List ℕ) (b : Bool) → checkOf bs ≡ Good → foreignFrom (lettersOf bs) w 0 ≡ Good → accepts (automatonOf bs) w ≡ b → testOf bs w ≡ verdict b
+tested : (bs w : List ℕ) (b : Bool) → checkOf bs ≡ Good → isOver (lettersOf bs) w ≡ true → accepts (automatonOf bs) w ≡ b → testOf bs w ≡ verdict b
 unfolding testOf
 tested bs w b e f h = rw (e, f, h)
 
@@ -129,9 +125,9 @@ differs bs cs w s p =
 -- ---- each claim
 
 pub returned : (c : Claim) → Passed (tests c) → Returned c
-returned (accepted bs w) p = tested bs w true (good-true (checkOf bs) (p .0)) (good-true (foreignFrom (lettersOf bs) w 0) (p .1 .0)) (holds (accepted bs w) p)
-returned (rejected bs w) p = tested bs w false (good-true (checkOf bs) (p .0)) (good-true (foreignFrom (lettersOf bs) w 0) (p .1 .0)) (holds (rejected bs w) p)
-returned (paths bs k) p = λ w ow. tested bs w (odd k) (good-true (checkOf bs) (p .0)) (over-foreign (lettersOf bs) w 0 ow) (ap odd (holds (paths bs k) p w ow))
-returned (speaks bs s) p = λ w ow. tested bs w _ (good-true (checkOf bs) (p .0)) (over-foreign (lettersOf bs) w 0 ow) (sym (holds (speaks bs s) p w ow))
+returned (accepted bs w) p = tested bs w true (good-true (checkOf bs) (p .0)) (p .1 .0) (holds (accepted bs w) p)
+returned (rejected bs w) p = tested bs w false (good-true (checkOf bs) (p .0)) (p .1 .0) (holds (rejected bs w) p)
+returned (paths bs k) p = λ w ow. tested bs w (odd k) (good-true (checkOf bs) (p .0)) (is-over (lettersOf bs) w ow) (ap odd (holds (paths bs k) p w ow))
+returned (speaks bs s) p = λ w ow. tested bs w _ (good-true (checkOf bs) (p .0)) (is-over (lettersOf bs) w ow) (sym (holds (speaks bs s) p w ow))
 returned (gives t r n d) p = record { bytes = outcome t r n d p; dimension = dimension t r n d p }
 returned (differ bs cs w s) p = differs bs cs w s p

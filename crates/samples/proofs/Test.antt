@@ -6,12 +6,12 @@ use Prim.Native.Nat.{ℕ, _*_}
 use lib.Dec.{eqb, leb}
 use lib.ListN.{length}
 use Rattle.automata.specs.Automaton.{Automaton, accepts, sumBelow}
+use Rattle.automata.specs.Word.{isOver}
 use Rattle.automata.specs.MinimalOf.{minimalOf, basisWords, dimensionOf}
 use Rattle.automata.specs.FirstDifference.{firstDifference}
 use Rattle.record.specs.Bytes.{number, bytesOf, allBytes}
 use Rattle.record.specs.Record.{statesOf, lettersOf, strayFrom, frontOf, checkOf, automatonOf, encode}
 use Rattle.operands.specs.Operands.{pairOf}
-use Rattle.testing.specs.Testing.{foreignFrom}
 use Rattle.minimal.specs.Minimal.{minimalBytes}
 use Rattle.compare.specs.Compare.{acceptorOf}
 use Rattle.intersection.specs.Meet.{maxProduct}
@@ -44,8 +44,8 @@ passes (repetition bs) = good (checkOf bs) && not (accepts (automatonOf bs) [])
 -- Each claim's tests. Of a result: the record r is its own minimal record, with d states, and accepts the words of the result; that is
 -- less to compute than the minimal record of the result.
 abbrev pub tests : Claim → List Bool
-tests (accepted bs w) = good (checkOf bs) ∷ good (foreignFrom (lettersOf bs) w 0) ∷ accepts (automatonOf bs) w ∷ []
-tests (rejected bs w) = good (checkOf bs) ∷ good (foreignFrom (lettersOf bs) w 0) ∷ not (accepts (automatonOf bs) w) ∷ []
+tests (accepted bs w) = good (checkOf bs) ∷ isOver (lettersOf bs) w ∷ accepts (automatonOf bs) w ∷ []
+tests (rejected bs w) = good (checkOf bs) ∷ isOver (lettersOf bs) w ∷ not (accepts (automatonOf bs) w) ∷ []
 tests (paths bs k) =
     good (checkOf bs)
     ∷ steady (lettersOf bs) (automatonOf bs)
@@ -80,5 +80,5 @@ passing (c ∷ cs) = every (tests c) && passing cs
 
 -- One computation for each sample.
 pub table-passes : Every (λ s. passing s ≡ true) samples
-unfolding samples x12 x noStates oneState twoPaths zeroStar oneStar cycle starSum firstOne nonempty emptyOrZero recordOf entryOf lettersAt frontOf checkOf strayFrom pairOf number bytesOf allBytes encode minimalOf minimalBytes basisWords dimensionOf firstDifference foreignFrom
+unfolding samples x12 x noStates oneState twoPaths zeroStar oneStar cycle starSum firstOne nonempty emptyOrZero recordOf entryOf lettersAt frontOf checkOf strayFrom pairOf number bytesOf allBytes encode minimalOf minimalBytes basisWords dimensionOf firstDifference
 table-passes = (refl, (refl, (refl, (refl, (refl, (refl, (refl, (refl, (refl, tt)))))))))

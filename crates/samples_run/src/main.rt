@@ -1,5 +1,5 @@
-// Runs the samples without a star, the sample of each row of the refusal table, blanks, and products and stars (02: Note 2) through the
-// services: a line for each.
+// Runs the samples without a star, the sample of each row of the refusal table, blanks, products and stars (02: Note 2), and letters
+// outside the alphabet (02: Note 3) through the services: a line for each.
 // What must come out is in the file `stdout`, as the scope has it.
 mod ask;
 mod make;
@@ -108,10 +108,19 @@ fn rows_6_and_7() {
     );
 }
 
-// Row 8: a = 1 and a = 2. Row 9: a = 2, word 0 2.
-fn rows_8_and_9() {
+// Row 8: a = 1 and a = 2.
+fn row_8() {
     ask::sum(b"row 8: ", &NOTHING, &NOTHING_OF_TWO);
-    ask::test(b"row 9: ", &X, b"\x00\x02");
+}
+
+// What row 9 once refused, a = 2 and word 0 2, is not accepted; nor is, by the machine for all words over one letter, a word with another
+// letter in front, in the middle or at the end.
+fn foreign_letters() {
+    ask::test(b"foreign: X, word 02 ", &X, b"\x00\x02");
+    ask::test(b"foreign: all words, word 00 ", &ALL, b"\x00\x00");
+    ask::test(b"foreign: all words, word 100 ", &ALL, b"\x01\x00\x00");
+    ask::test(b"foreign: all words, word 010 ", &ALL, b"\x00\x01\x00");
+    ask::test(b"foreign: all words, word 001 ", &ALL, b"\x00\x00\x01");
 }
 
 // Row 10: only 0^8 with only 0^7.
@@ -201,7 +210,7 @@ fn main() {
     rows_1_to_3();
     rows_4_and_5();
     rows_6_and_7();
-    rows_8_and_9();
+    row_8();
     row_10();
     row_11();
     rows_12_to_14();
@@ -209,4 +218,5 @@ fn main() {
     products();
     products_of_powers();
     stars();
+    foreign_letters();
 }

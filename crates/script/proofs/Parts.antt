@@ -1,15 +1,22 @@
--- What stands at a position of a script: each answer of the cursor where those before it do not apply, and what a whole record is.
+-- What stands at a position of a script: each answer of the cursor where those before it do not apply, what a whole record is, and the
+-- numbers of refusals.
 use mathlib.Core.Path.{_≡_, refl, sym, _∙_}
+use mathlib.Core.Bool.{Bool, true, false, cond}
+use mathlib.Core.Logic.{inl, inr}
 use mathlib.Core.List.{List}
 use Prim.Native.Nat.{ℕ, _+_, _≤_, _<_}
 use native.Mathlib.Omega.{arith}
 use native.Mathlib.Decide.{decLt}
 use borrow.Author.Tests.{lt-ltb, le-ltb, le-leb, lt-leb}
+use lib.Dec.{ltb, leb}
 use lib.ListN.{length, drop, length-drop}
+use Rattle.automata.specs.Count.{Member}
 use Rattle.record.specs.Record.{frontOf, needOf, rowsAt}
 use Rattle.record.specs.declared.Checked.{Checked}
 use Rattle.record.specs.declared.Checked.the-variants.{Good, Refused as Bad}
-use Rattle.script.specs.Script.{partOf, partAt}
+use Rattle.record.proofs.Numbers.{Numbered, checkNumbers, front-numbers}
+use Rattle.script.specs.Script.{passed, partOf, partAt}
+use Rattle.script.specs.declared.Part.{Part}
 use Rattle.script.specs.declared.Part.the-variants.{Whole, Refused, End}
 
 -- ---- each answer of the cursor
@@ -79,3 +86,30 @@ module _ (s : List ℕ) (at start next : ℕ) (e : partAt s at ≡ Whole start n
           let m = end-met s at (omega arith) in
           let z : _≡_ {A = ℕ} 0 1 = cc in
           absurd (omega arith)
+
+-- ---- the numbers of refusals
+
+abbrev pub PartAmong : List ℕ → Part → Type 0
+PartAmong ns (Whole start next) = Unit {0}
+PartAmong ns (Refused number place) = Member number ns
+PartAmong ns End = Unit {0}
+
+-- They are those of the record check.
+pub part-numbers : (s : List ℕ) (at : ℕ) → PartAmong checkNumbers (partAt s at)
+unfolding partAt partOf
+part-numbers s at = ended (leb (length s) at) _ (front (frontOf left) (front-numbers left) _ (short (ltb (length left) (needOf left)) (needOf left) at (at + needOf left)))
+  where
+    left : List ℕ
+    left = drop at s
+
+    ended : (b : Bool) (p : Part) → PartAmong checkNumbers p → PartAmong checkNumbers (cond b End p)
+    ended true p h = tt
+    ended false p h = h
+
+    front : (c : Checked) → Numbered (λ k. Member k checkNumbers) c → (p : Part) → PartAmong checkNumbers p → PartAmong checkNumbers (passed c p)
+    front Good n p h = h
+    front (Bad number place) n p h = n number place refl
+
+    short : (b : Bool) (place start next : ℕ) → PartAmong checkNumbers (cond b (Refused 6 place) (Whole start next))
+    short true place start next = inr (inr (inr (inr (inr (inl refl)))))
+    short false place start next = tt

@@ -1,10 +1,11 @@
 -- The outcome of the star, case by case, and its claims over all words.
-use mathlib.Core.Path.{_≡_, refl, sym, ap, _∙_}
+use mathlib.Core.Path.{_≡_, refl, sym, ap, subst, _∙_}
 use mathlib.Core.Bool.{Bool, true, false}
-use mathlib.Core.List.{List, []}
+use mathlib.Core.List.{List, [], _∷_}
 use Prim.Native.Nat.{ℕ}
 use native.Mathlib.Omega.{arith}
 use lib.ListN.{length}
+use Rattle.automata.specs.Count.{Member}
 use Rattle.automata.specs.Operations.{ends, starOf}
 use Rattle.automata.proofs.Acceptance.{accepts-reach}
 use Rattle.automata.proofs.StarOf.{accepts-star}
@@ -17,12 +18,12 @@ use Rattle.record.specs.declared.Checked.{Checked}
 use Rattle.record.specs.declared.Checked.the-variants.{Good, Refused as Wrong}
 use Rattle.record.specs.declared.Written.{Written}
 use Rattle.record.specs.declared.Written.the-variants.{Refused}
-use Rattle.record.proofs.Numbers.{check-last}
+use Rattle.record.proofs.Numbers.{not-member, checkNumbers, check-numbers, not-among}
 use Rattle.record.proofs.Outcome.{checked-wrote}
 use Rattle.results.specs.Results.{resultOf}
 use Rattle.results.specs.Built.{Built}
 use Rattle.results.proofs.BuiltLaws.{held-words}
-use Rattle.results.proofs.ResultLaws.{result-number, answer-refused, Promises, Service, service-of}
+use Rattle.results.proofs.ResultLaws.{result-among, answer-refused, Promises, Service, service-of}
 use Rattle.results.proofs.Passed.{sizes, checked-refused}
 use Rattle.star.specs.Star.{refusingEmpty, starOutcome, starWords, LacksEmpty, GivesStar}
 
@@ -75,13 +76,13 @@ module _ (bs : List ℕ) where
       where
         second : (b : Bool) → refusingEmpty b result ≡ refused 14 which place → b ≡ true
         second true q = refl
-        second false q = absurd (let z = result-number (lettersOf bs) (starOf (automatonOf bs)) room 14 which place q .1 in omega arith)
+        second false q = absurd (not-among (11 ∷ 12 ∷ []) _ (result-among (lettersOf bs) (starOf (automatonOf bs)) room) 14 which place refl q)
 
         first : (c : Checked) → checkOf bs ≡ c → checked c 1 (refusingEmpty (languageOf bs []) result) ≡ refused 14 which place → (c ≡ Good) × (languageOf bs [] ≡ true)
         first Good h q = (refl, second (languageOf bs []) q)
         first (Wrong number p) h q =
             let z : number ≡ 14 = cc in
-            absurd (omega (arith, check-last bs number p h))
+            absurd (not-member checkNumbers 14 refl (subst (λ k. Member k checkNumbers) z (check-numbers bs number p h)))
 
   -- ---- the claims
 

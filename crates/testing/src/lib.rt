@@ -1,9 +1,13 @@
 // The test of a word against a record.
 ghost use mathlib.Core.Path.{_≡_};
-ghost use mathlib.Core.Bool.{false};
-ghost use Rattle.automata.specs.Word.{Over};
+ghost use mathlib.Core.Bool.{false, cond};
+ghost use Prim.Native.Nat.{ℕ, _^_, _≤_, _<_};
+ghost use lib.Dec.{ltb};
+ghost use Rattle.rows.specs.Row.{mask};
+ghost use Rattle.rows.specs.Table.{blocks, at};
+ghost use Rattle.rows.specs.Product.{product};
 ghost use Rattle.rows.specs.Machine.{Valid};
-ghost use Rattle.testing.specs.Testing.{foreignFrom, testedOf, testOf, Reached};
+ghost use Rattle.testing.specs.Testing.{testedOf, testOf, Tests, Reached};
 use record::Checked;
 use rows::Machine;
 use rows::Row;
@@ -20,24 +24,7 @@ pub enum Tested {
     },
 }
 
-// Row 9 of the refusal table, for a word over the letters 0 to a − 1.
-fn check_word(word: &[u8], a: usize) -> Checked
-    ensures { λ r. ⌜ r ≡ foreignFrom a (now (word .entry)) 0 ⌝ }
-{
-    let mut i = 0;
-    while i < word.len() {
-        if a <= record::size(word[i]) {
-            return Checked::Refused {
-                number: 9,
-                place: i,
-            };
-        }
-        i += 1;
-    }
-    Checked::Good
-}
-
-// A refusal of the checks, as the answer of a test.
+// A refusal of the check, as the answer of a test.
 fn refused(c: Checked) -> Tested
     ensures { λ r. ⌜ r ≡ testedOf c false ⌝ }
 {
@@ -51,23 +38,42 @@ fn refused(c: Checked) -> Tested
     }
 }
 
-// The row that the machine reaches along a word: the initial row times one matrix per letter.
+// The row x times the matrix of letter l: none where the letter is not one of the a that there are.
+fn step(t: &Table, a: usize, l: usize, x: Row) -> Row
+    requires { ⌜ a ≤ blocks ⌝ }
+    ensures { λ r. ⌜ ((n : ℕ) → mask x < 2 ^ n → mask r ≡ cond (ltb l a) (product n (mask x) (at (now (t .entry)) l)) 0) ⌝ }
+{
+    let nowhere = rows::none();
+    if a <= l {
+        return nowhere;
+    }
+    rows::times(t, l, x)
+}
+
+// The row that the machine reaches along a word: the initial row, one letter after another. With the first letter that leads nowhere the
+// reading ends, since nothing that comes after it leads back.
 fn follow(t: &Table, m: Machine, word: &[u8]) -> Row
-    requires { ⌜ Valid (now t) m × Over (m .letters) (now word) ⌝ }
+    requires { ⌜ Valid (now t) m ⌝ }
     ensures { λ r. ⌜ Reached (now (t .entry)) m (now (word .entry)) r ⌝ }
 {
     let mut x = m.initial;
     let mut i = 0;
     while i < word.len() {
-        x = rows::times(t, record::size(word[i]), x);
+        let y = step(t, m.letters, record::size(word[i]), x);
+        if rows::is_none(y) {
+            return y;
+        }
+        x = y;
         i += 1;
     }
     x
 }
 
-// Whether a record accepts a word.
+// Whether a record accepts a word. A word with a letter outside the record's alphabet is not accepted.
+// `claims`: it is accepted exactly where the record is well formed, every letter is below a, and the path count is odd.
 pub fn test(bytes: &[u8], word: &[u8]) -> Tested
-    ensures { λ r. ⌜ r ≡ testOf (now (bytes .entry)) (now (word .entry)) ⌝ }
+    ensures answer { λ r. ⌜ r ≡ testOf (now (bytes .entry)) (now (word .entry)) ⌝ }
+    ensures claims { λ r. ⌜ Tests (now (bytes .entry)) (now (word .entry)) r ⌝ }
 {
     let c = record::check(bytes);
     let Checked::Good = c else {
@@ -75,10 +81,6 @@ pub fn test(bytes: &[u8], word: &[u8]) -> Tested
     };
     let mut t = [0u64; 512];
     let m = codec::read(bytes, &mut t);
-    let w = check_word(word, m.letters);
-    let Checked::Good = w else {
-        return refused(w);
-    };
     let x = follow(&t, m, word);
     if rows::parity(x, m.finals) {
         Tested::Accepted

@@ -1,13 +1,12 @@
--- `mark`: the line at the place of the record; what it tells follows from the answer and the buffer.
+-- `mark`: the line at the place of the record; what it tells, and which refusals, follows from the answer and the buffer.
 use mathlib.Core.Path.{sym, ap, subst, _∙_}
 use Prim.Native.Nat.{_≤_}
 use denote.Ref.{now}
 use lib.ListN.{length, take}
 use Rattle.record.specs.Outcome.{answerOf, bufferOf, fit}
-use Rattle.record.proofs.Outcome.{fit-bytes}
 use Rattle.lines.specs.Lines.{longest}
 use Rattle.marking.specs.Marking.{lineAt, markLine, markOutcome}
-use Rattle.marking.proofs.ToldLaws.{told}
+use Rattle.marking.proofs.ToldLaws.{marks}
 use borrow.Author.Needs.{needs}
 use Rattle.marking.proofs.mark.Statement.{statement}
 use Rattle.marking.proofs.mark.Tie as tie
@@ -34,7 +33,7 @@ returns c =
         buffer,
         (
           subst (λ p. length (lineAt s (a .index) p) ≤ longest) (c .before .before .before .before .place .ensures) (c .before .before .line-at .ensures .1 .1),
-          λ short n r. told s (a .index) _ short (ap (take n) buffer ∙ fit-bytes (length (now (a .out))) n (markLine s (a .index)) (now (a .out)) (sym answer ∙ r)),
+          marks s (a .index) (now (a .out)) _ _ answer buffer,
         ),
       ),
     )

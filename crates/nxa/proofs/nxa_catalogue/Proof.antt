@@ -1,10 +1,11 @@
--- `nxa_catalogue`: the reply of what the service answers; its claims are of the answer that a host reads off the reply.
+-- `nxa_catalogue`: the reply of what the service answers, and its numbers; its claims are of the answer that a host reads off the reply.
+use mathlib.Core.Path.{refl}
 use denote.Ref.{now}
 use lib.ListN.{length}
 use Rattle.record.specs.Outcome.{answerIn}
 use Rattle.catalogue.specs.Entries.{catalogueOf, GivesEntry}
 use Rattle.replies.specs.Reply.{ofWritten, writtenIn}
-use Rattle.nxa.proofs.Granted.{catalogue-reasoned, written-back, told}
+use Rattle.nxa.proofs.Granted.{catalogueNumbers, catalogue-among, written-readable, told}
 use borrow.Author.Needs.{needs}
 use Rattle.nxa.proofs.nxa_catalogue.Statement.{statement}
 use Rattle.nxa.proofs.nxa_catalogue.Tie as tie
@@ -23,8 +24,8 @@ returns c =
     let a = c .before .before .before .before .before .before .args in
     let buf = now (a .out) in
     let w = c .before .before .before .give in
-    let back = written-back (catalogueOf (a .number) (length buf)) (w .result) (catalogue-reasoned (a .number) (length buf)) (w .ensures .0) in
-    told ofWritten writtenIn (w .result) (answerIn (catalogueOf (a .number)) buf) (c .of-written .result) _ (GivesEntry (a .number) (w .last .1 .0)) (c .of-written .ensures) back (w .ensures)
+    let read = written-readable catalogueNumbers refl (catalogueOf (a .number) (length buf)) (w .result) (catalogue-among (a .number) (length buf)) (w .ensures .0) in
+    told ofWritten writtenIn catalogueNumbers (w .result) (answerIn (catalogueOf (a .number)) buf) (c .of-written .result) _ (GivesEntry (a .number) (w .last .1 .0)) (c .of-written .ensures) read (w .ensures)
 
 pub nxa-catalogue-spec : {M : Type 1} → statement M
 nxa-catalogue-spec = tie.close (tie.spec give-requires of-written-requires same-length returns)

@@ -1,4 +1,4 @@
--- `nxa_compare`: the reply of what the service answers; its claims are of the answer that a host reads off the reply.
+-- `nxa_compare`: the reply of what the service answers, and its numbers; its claims are of the answer that a host reads off the reply.
 use denote.Ref.{now}
 use lib.ListN.{length}
 use Rattle.record.specs.Record.{lettersOf}
@@ -6,7 +6,7 @@ use Rattle.operands.specs.Meant.{meantOver}
 use Rattle.compare.specs.Compare.{compareAnswer, Compares}
 use Rattle.replies.specs.Reply.{ofCompared, comparedIn}
 use Rattle.nxa.proofs.Granted.{told}
-use Rattle.nxa.proofs.Compared.{compared-back}
+use Rattle.nxa.proofs.Compared.{compareNumbers, compared-readable}
 use borrow.Author.Needs.{needs}
 use Rattle.nxa.proofs.nxa_compare.Statement.{statement}
 use Rattle.nxa.proofs.nxa_compare.Tie as tie
@@ -27,8 +27,8 @@ returns c =
     let cs = meantOver (lettersOf bs) (now (a .second)) in
     let buf = now (a .word) in
     let m = c .before .before .before .compare in
-    let back = compared-back bs cs (length buf) (m .result) (m .ensures .0) in
-    told ofCompared comparedIn (m .result) (compareAnswer bs cs (length buf)) (c .of-compared .result) _ (Compares bs cs buf (m .last .1 .1 .0)) (c .of-compared .ensures) back (m .ensures)
+    let read = compared-readable bs cs (length buf) (m .result) (m .ensures .0) in
+    told ofCompared comparedIn compareNumbers (m .result) (compareAnswer bs cs (length buf)) (c .of-compared .result) _ (Compares bs cs buf (m .last .1 .1 .0)) (c .of-compared .ensures) read (m .ensures)
 
 pub nxa-compare-spec : {M : Type 1} → statement M
 nxa-compare-spec = tie.close (tie.spec compare-requires of-compared-requires same-length returns)

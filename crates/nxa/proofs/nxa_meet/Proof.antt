@@ -1,4 +1,5 @@
--- `nxa_meet`: the reply of what the service answers; its claims are of the answer that a host reads off the reply.
+-- `nxa_meet`: the reply of what the service answers, and its numbers; its claims are of the answer that a host reads off the reply.
+use mathlib.Core.Path.{refl}
 use denote.Ref.{now}
 use lib.ListN.{length}
 use Rattle.record.specs.Record.{lettersOf}
@@ -6,8 +7,8 @@ use Rattle.record.specs.Outcome.{answerIn}
 use Rattle.operands.specs.Meant.{meantOver}
 use Rattle.intersection.specs.Meet.{meetOutcome, Meets}
 use Rattle.replies.specs.Reply.{ofWritten, writtenIn}
-use Rattle.nxa.proofs.Granted.{written-back, told}
-use Rattle.nxa.proofs.Operations.{meet-reasoned}
+use Rattle.nxa.proofs.Granted.{written-readable, told}
+use Rattle.nxa.proofs.Operations.{meetNumbers, meet-among}
 use borrow.Author.Needs.{needs}
 use Rattle.nxa.proofs.nxa_meet.Statement.{statement}
 use Rattle.nxa.proofs.nxa_meet.Tie as tie
@@ -28,8 +29,8 @@ returns c =
     let cs = meantOver (lettersOf bs) (now (a .second)) in
     let buf = now (a .out) in
     let w = c .before .before .before .meet in
-    let back = written-back (meetOutcome bs cs (length buf)) (w .result) (meet-reasoned bs cs (length buf)) (w .ensures .0) in
-    told ofWritten writtenIn (w .result) (answerIn (meetOutcome bs cs) buf) (c .of-written .result) _ (Meets bs cs (w .last .1 .1 .0)) (c .of-written .ensures) back (w .ensures)
+    let read = written-readable meetNumbers refl (meetOutcome bs cs (length buf)) (w .result) (meet-among bs cs (length buf)) (w .ensures .0) in
+    told ofWritten writtenIn meetNumbers (w .result) (answerIn (meetOutcome bs cs) buf) (c .of-written .result) _ (Meets bs cs (w .last .1 .1 .0)) (c .of-written .ensures) read (w .ensures)
 
 pub nxa-meet-spec : {M : Type 1} → statement M
 nxa-meet-spec = tie.close (tie.spec meet-requires of-written-requires same-length returns)

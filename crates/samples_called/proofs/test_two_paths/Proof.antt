@@ -15,7 +15,7 @@ test-requires c κs = search needs
 
 returns : tie.Need-returns
 unfolding samples twoPaths allBytes bytesOf
-returns c = (c .test .ensures, λ o. c .test .ensures ∙ samples-returned .1 .1 .1 .1 .0 .0 _ o)
+returns c = (c .test .ensures .0, λ o. c .test .ensures .0 ∙ samples-returned .1 .1 .1 .1 .0 .0 _ o)
 
 pub test-two-paths-spec : {M : Type 1} → statement M
 test-two-paths-spec = tie.close (tie.spec slice-aggregate-test test-requires returns)

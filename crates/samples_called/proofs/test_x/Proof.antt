@@ -16,7 +16,7 @@ test-requires c κs = search needs
 
 returns : tie.Need-returns
 unfolding samples x12 allBytes bytesOf entryWords
-returns c = (c .test .ensures, λ o. c .test .ensures ∙ samples-returned .0 .0 _ o)
+returns c = (c .test .ensures .0, λ o. c .test .ensures .0 ∙ samples-returned .0 .0 _ o)
 
 pub test-x-spec : {M : Type 1} → statement M
 test-x-spec = tie.close (tie.spec slice-aggregate-test test-requires returns)

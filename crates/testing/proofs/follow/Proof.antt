@@ -1,28 +1,28 @@
 -- `follow`: the row at hand is the one reached along the letters passed.
-use mathlib.Core.Path.{_≡_, refl, sym, ap, _∙_}
+use mathlib.Core.Path.{_≡_, refl, sym, ap, subst, _∙_}
 use mathlib.Core.List.{[], _∷_, _++_}
 use Prim.Native.Nat.{_+_, _-_, _≤_}
 use native.Mathlib.Omega.{arith}
 use native.Mathlib.Numerals.{add-one}
-use lib.ListN.{length, take}
+use borrow.Author.Needs.{needs}
+use borrow.Author.Tests.{eqb-true}
+use lib.ListN.{length, take, drop, take-append-drop}
 use lib.Seq.{take-suc, take-all}
-use Rattle.automata.specs.Word.{Over}
-use Rattle.automata.proofs.Shortlex.{over-at}
-use Rattle.rows.specs.declared.Machine.{Machine}
+use Rattle.rows.specs.Row.{mask}
 use Rattle.rows.specs.Machine.{Valid}
 use Rattle.testing.specs.Testing.{Reached}
-use Rattle.testing.proofs.Testing.{reached-start, reached-letter}
+use Rattle.testing.proofs.Testing.{reached-start, reached-letter, reached-none}
 use Rattle.testing.proofs.follow.Statement.{statement}
 use Rattle.testing.proofs.follow.Tie as tie
 
 abbrev Inv-loop : tie.InvT-loop
-Inv-loop t word x₀ i₀ x i = (i ≤ length word) × ((m : Machine) → m .initial ≡ x₀ → Valid t m → Over (m .letters) word → Reached t m (take i word) x)
+Inv-loop t m word x₀ i₀ x i = (i ≤ length word) × (Valid t m → Reached t m (take i word) x)
 
 abbrev μ-loop : tie.MeasureT-loop
-μ-loop t word x₀ i₀ x i = length word - i
+μ-loop t m word x₀ i₀ x i = length word - i
 
 loop-holds : tie.Need-loop-holds Inv-loop μ-loop
-loop-holds c = (omega arith, λ m e v o. rw (← e) (reached-start (c .before .before .args .t .now) m v))
+loop-holds c = (omega arith, λ v. reached-start (c .before .before .args .t .now) (c .before .before .args .m) v)
 
 shared-slice-read-size : tie.Need-shared-slice-read-size Inv-loop μ-loop
 shared-slice-read-size c = omega arith
@@ -30,11 +30,37 @@ shared-slice-read-size c = omega arith
 size-requires : tie.Need-size-requires Inv-loop μ-loop
 size-requires c κs = omega arith
 
-times-requires : tie.Need-times-requires Inv-loop μ-loop
-times-requires c κs =
-    let s = c .before .before .before .before .before .before in
-    let below = over-at (s .args .m .letters) (s .args .word .now) (s .pre .1) (c .before .before .before .loop .i) (c .before .before .loop-test .taken) in
-    omega (arith, c .size .ensures .0, s .pre .0 .letters)
+step-requires : tie.Need-step-requires Inv-loop μ-loop
+step-requires c κs = c .before .before .before .before .before .before .pre .letters
+
+is-none-requires : tie.Need-is-none-requires Inv-loop μ-loop
+is-none-requires c κs = search needs
+
+-- The row that one letter more reaches.
+further : (c : tie.After-step Inv-loop μ-loop)
+    → Reached (c .before .before .before .before .before .before .before .args .t .now) (c .before .before .before .before .before .before .before .args .m)
+    (take (c .before .before .before .before .loop .i + 1) (c .before .before .before .before .before .before .before .args .word .now)) (c .step .result)
+further c =
+    let loop = c .before .before .before .before in
+    let s = loop .before .before .before in
+    let a = s .args in
+    let w = a .word .now in
+    let i = loop .loop .i in
+    let r = loop .loop .inv .1 (s .pre) in
+    let one : take (i + 1) w ≡ take i w ++ (c .before .size .result ∷ []) =
+    ap (λ k. take k w) (add-one i) ∙ take-suc w i 0 (c .before .before .before .loop-test .taken) ∙ ap (λ x. take i w ++ (x ∷ [])) (sym (c .before .size .ensures .0)) in
+    rw one
+    (reached-letter (a .t .now) (a .m) (s .pre) (take i w) (c .before .size .result) (loop .loop .x) (c .step .result) r (c .step .ensures (a .m .states) (r .below)))
+
+returns : tie.Need-returns Inv-loop μ-loop
+returns c =
+    let k = c .before .before in
+    let s = k .before .before .before .before .before .before .before in
+    let a = s .args in
+    let w = a .word .now in
+    let i = k .before .before .before .before .loop .i in
+    let none : mask (k .step .result) ≡ 0 = eqb-true _ _ (sym (c .before .is-none .ensures) ∙ c .if1 .taken) in
+    rw take-append-drop at (reached-none (a .t .now) (a .m) (s .pre) (take (i + 1) w) (drop (i + 1) w) (k .step .result) (further k) none)
 
 add-i : tie.Need-add-i Inv-loop μ-loop
 add-i c = omega arith
@@ -43,28 +69,13 @@ loop-less : tie.Need-loop-less Inv-loop μ-loop
 loop-less c = omega arith
 
 loop-again : tie.Need-loop-again Inv-loop μ-loop
-loop-again c =
-    let b = c .before .before .before .before in
-    let a = b .before .before .before .args in
-    let w = a .word .now in
-    let i = b .loop .i in
-    let l = c .before .size .result in
-    let same = c .before .size .ensures .0 in
-    let step : take (i + 1) w ≡ take i w ++ (l ∷ []) =
-    ap (λ k. take k w) (add-one i) ∙ take-suc w i 0 (c .before .before .before .loop-test .taken) ∙ ap (λ x. take i w ++ (x ∷ [])) (sym same) in (
-      omega arith,
-      λ m e v o.
-          let r = b .loop .inv .1 m e v o in
-          let below = over-at (m .letters) w o i (c .before .before .before .loop-test .taken) in
-          rw step
-          (reached-letter (a .t .now) m v (take i w) l (b .loop .x) (c .times .result) (omega (arith, same, below)) r (c .times .ensures (m .states) (r .below))),
-    )
+loop-again c = (omega arith, λ v. further (c .before .before))
 
-returns : tie.Need-returns Inv-loop μ-loop
-returns c =
+returns-2 : tie.Need-returns-2 Inv-loop μ-loop
+returns-2 c =
     let s = c .before .before .before .before in
     let whole = take-all (c .before .loop .i) (s .args .word .now) (c .loop-test .left) in
-    rw whole at (c .before .loop .inv .1 (s .args .m) refl (s .pre .0) (s .pre .1))
+    rw whole at (c .before .loop .inv .1 (s .pre))
 
 pub follow-spec : {M : Type 1} → statement M
 follow-spec =
@@ -75,8 +86,10 @@ follow-spec =
     loop-holds
     shared-slice-read-size
     size-requires
-    times-requires
+    step-requires
+    is-none-requires
+    returns
     add-i
     loop-less
     loop-again
-    returns)
+    returns-2)
