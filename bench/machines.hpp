@@ -1,5 +1,5 @@
 // The machines that the benchmarks run on: random dense ones, sparse and deterministic ones, the same language in another basis. Needs the yardstick's Machine,
-// or one like it.
+// or that of plain_machine.hpp.
 #ifndef MACHINES_HPP
 #define MACHINES_HPP
 

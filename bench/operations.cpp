@@ -1,34 +1,11 @@
 // Times product and star beside the sum of operands of the same sizes, in one run, from record bytes to answer bytes. Build: see README.md in
 // this folder. Needs no yardstick: nothing but the archive is timed.
 #include <algorithm>
-#include <cstdint>
 #include <cstdio>
 #include <cstdlib>
 #include <string>
 #include <vector>
-typedef uint64_t u64;
-typedef uint8_t u8;
-
-// What machines.hpp works on, as the yardstick has it.
-struct Machine {
-    int n = 0, a = 1;
-    u64 I = 0, F = 0;
-    u64 T[8][64];
-};
-
-static u8* put_row(u8* at, u64 row) {
-    for (int k = 0; k < 4; k++) *at++ = (u8)(row >> 8 * k);
-    return at;
-}
-
-static size_t write_record(const Machine& m, u8* out) {
-    const u8 head[7] = {0x4E, 0x58, 0x41, 1, 0, (u8)m.n, (u8)m.a};
-    u8* at = put_row(put_row(std::copy(head, head + 7, out), m.I), m.F);
-    for (int l = 0; l < m.a; l++)
-        for (int i = 0; i < m.n; i++) at = put_row(at, m.T[l][i]);
-    return (size_t)(at - out);
-}
-
+#include "plain_machine.hpp"
 #include "machines.hpp"
 #include "timing.hpp"
 extern "C" {
@@ -99,15 +76,6 @@ static void time_star(int n, int a) {
     add_family("star random dense" + size_of(n, a), star, random);
 }
 
-// All families, one after another, in many passes, and the slices of the two services by turns: others on the machine slow it for seconds at a time.
-static void time_families(double budget) {
-    for (int pass = 0; pass < PASSES; pass++)
-        for (Family& f : families) {
-            double spent = 0;
-            for (int turn = 0; spent < 2 * budget / PASSES || turn < 4; turn++) spent += f.turn();
-        }
-}
-
 static void print_families() {
     std::printf("%-42s %8s %8s   %6s\n", "microseconds for one call", "own", "sum", "ratio");
     for (const Family& f : families) std::printf("%-42s %8.3f %8.3f   %6.2f\n", f.name.c_str(), f.own.best, f.beside.best, f.ratio());
@@ -121,6 +89,6 @@ int main(int argc, char** argv) {
         for (int a : {1, 2, 4, 8}) time_product(n, a);
     for (int n : {2, 4, 8, 16, 31, 32})
         for (int a : {1, 2, 4, 8}) time_star(n, a);
-    time_families(budget);
+    time_in_passes(families, 2 * budget);
     print_families();
 }

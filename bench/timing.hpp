@@ -6,6 +6,7 @@
 #include <cstddef>
 #include <string>
 #include <time.h>
+#include <vector>
 
 // So many inputs of a family that no branch predictor knows them by heart: with 128 small ones it does, in some runs, for some programs.
 static const int INPUTS = 512;
@@ -36,6 +37,16 @@ struct Timer {
         return took;
     }
 };
+
+// All families, one after another, in many passes; a turn of a family is a slice of each thing that it times. Others on the machine slow it for
+// seconds at a time, so that no family is to have all its slices in one stretch.
+template <class Family> static void time_in_passes(std::vector<Family>& families, double budget) {
+    for (int pass = 0; pass < PASSES; pass++)
+        for (Family& f : families) {
+            double spent = 0;
+            for (int turn = 0; spent < budget / PASSES || turn < 4; turn++) spent += f.turn();
+        }
+}
 
 static inline std::string size_of(int n, int a) { return " n=" + std::to_string(n) + " a=" + std::to_string(a); }
 

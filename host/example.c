@@ -22,7 +22,7 @@ static const char *const reasons[] = {
     "the record's length does not fit its states and letters; bytes needed",
     "a field names a state that there is not; offset of the first such field",
     "the records have different letters; the number of letters stands at offset",
-    "the word has a letter outside the alphabet; index of the first",
+    "a number that no longer comes; place",
     "the product of the dimensions is over 64; product",
     "the result has more than 32 states; states",
     "the buffer is too short; bytes needed",
@@ -93,7 +93,7 @@ static int print_result(const char *name, operation *call, const uint8_t *record
     return 0;
 }
 
-/* A word given in digits; any other character becomes a letter that no record has. */
+/* A word given in digits; any other character becomes a letter that no record has, so that the word is not accepted. */
 static int print_test(const uint8_t *record, size_t length, const char *text)
 {
     uint8_t word[1000];

@@ -3,7 +3,7 @@
  * A record is at most NXA_RECORD_MAX bytes: the mark 4E 58 41, the version (2 bytes), the number of states n (1 byte), the number of
  * letters a (1 byte), then rows of 4 bytes each: I, F, and for every letter its n rows. Numbers go low byte first. Bit j of a row,
  * worth 2^j, stands for state j. A word is one byte per letter, the letters being 0 to a-1. A record accepts a word when the number
- * of paths along it, from a state of I to a state of F, is odd.
+ * of paths along it, from a state of I to a state of F, is odd. A word with a letter that is a or more, wherever it comes, is not accepted.
  *
  * In the services on two records (compare, sum, meet and product) a second record of 0 bytes, a blank, means the machine with no states
  * over the first one's letters, which accepts no word. A blank is never refused. A first or only record of 0 bytes is refused 1, place 0.
@@ -12,6 +12,7 @@
  * What it gives back: an nxa_reply. Number NXA_GRANTED (0) says that it did its work. Any other number is a refusal; it comes with the
  * record it is about (1 or 2; 0 where none is named) and a place, and then the lent buffer is left exactly as it was. Fields that a
  * reply has no use for are 0. A service that writes does so from the start of the lent buffer; the bytes past those written stay.
+ * The line "Numbers:" of a service has all numbers that its reply can have, as its contract promises; 9 is in none.
  *
  * What the host owes:
  *   - every pointer is valid and not null, also where its length is 0;
@@ -56,7 +57,7 @@ extern "C" {
 #define NXA_WRONG_LENGTH 6   /* length not 15 + 4*a*n: the length needed */
 #define NXA_STRAY_BIT 7      /* I, F or a row has a bit at n or above: offset of the first such field */
 #define NXA_UNLIKE_LETTERS 8 /* the two records have different a: 6; names record 2 */
-#define NXA_FOREIGN_LETTER 9 /* a letter of the tested word is a or more: its index in the word */
+#define NXA_FOREIGN_LETTER 9 /* no longer comes: a word with a letter that is a or more is not accepted */
 #define NXA_PRODUCT 10       /* meet: product of the two dimensions over 64: the product; names no record */
 #define NXA_DIMENSION 11     /* dimension of the result over 32: the dimension; names no record */
 #define NXA_NO_ROOM 12       /* the lent buffer is too short: the bytes needed; names no record */
@@ -77,6 +78,7 @@ typedef struct {
  * Writes:   nothing.
  * Granted:  the record is well formed; length 0, value 0.
  * Refused:  1 to 7, record 1, in this order: the first condition that is met is told.
+ * Numbers:  0 to 7.
  *
  *   nxa_reply r = nxa_check(bytes, count);
  *   if (r.number == NXA_STRAY_BIT) printf("stray bit in the field at %lu\n", (unsigned long)r.place);
@@ -89,18 +91,21 @@ nxa_reply nxa_check(const uint8_t *record, size_t record_len);
  * Writes:   the record, length bytes.
  * Granted:  length is 15 + 4*a*n, value 0.
  * Refused:  1 to 7, record 1; then 12, record 0, place the bytes needed.
+ * Numbers:  0 to 7, 12.
  *
  *   uint8_t copy[NXA_RECORD_MAX];
  *   nxa_reply r = nxa_rewrite(bytes, count, copy, sizeof copy);
  */
 nxa_reply nxa_rewrite(const uint8_t *record, size_t record_len, uint8_t *out, size_t out_len);
 
-/* Tests whether a record accepts a word. A word may have any length.
+/* Tests whether a record accepts a word. A word may have any length, and any bytes: one with a letter that is a or more is not accepted,
+ * whatever its other letters are.
  *
  * Reads:    the record, and the word, one letter per byte.
  * Writes:   nothing.
  * Granted:  value 1 where the word is accepted, else 0; length 0.
- * Refused:  1 to 7, record 1; then 9, record 1, place the index of the first letter that is a or more.
+ * Refused:  1 to 7, record 1.
+ * Numbers:  0 to 7.
  *
  *   static const uint8_t word[2] = {0, 1};
  *   nxa_reply r = nxa_test(bytes, count, word, sizeof word);
@@ -115,6 +120,7 @@ nxa_reply nxa_test(const uint8_t *record, size_t record_len, const uint8_t *word
  * Writes:   its minimal record, length bytes.
  * Granted:  length is 15 + 4*a*d, value is the dimension d, the number of states of the minimal record.
  * Refused:  1 to 7, record 1; then 12, record 0, place the bytes needed. NXA_RECORD_MAX bytes are always enough.
+ * Numbers:  0 to 7, 12.
  *
  *   uint8_t least[NXA_RECORD_MAX];
  *   nxa_reply r = nxa_minimal(bytes, count, least, sizeof least);
@@ -131,6 +137,7 @@ nxa_reply nxa_minimal(const uint8_t *record, size_t record_len, uint8_t *out, si
  * Refused:  1 to 7, record 1; 1 to 7, record 2, where 1 needs 1 to 6 bytes; 8, record 2, place 6; then, only where they differ, 12,
  *           record 0, place the letters of the word. A refusal of the first record is the whole answer. NXA_WORD_MAX bytes are always
  *           enough.
+ * Numbers:  0 to 8, 12.
  *
  *   uint8_t word[NXA_WORD_MAX];
  *   nxa_reply r = nxa_compare(key, key_count, answer, answer_count, word, sizeof word);
@@ -152,6 +159,7 @@ nxa_reply nxa_compare(const uint8_t *first, size_t first_len, const uint8_t *sec
  * Refused:  1 to 7, record 1; 1 to 7, record 2, where 1 needs 1 to 6 bytes; 8, record 2, place 6; 11, record 0, place the dimension,
  *           33 to 64; then 12, record 0, place the bytes needed. A refusal of the first record is the whole answer. NXA_RECORD_MAX bytes
  *           are always enough.
+ * Numbers:  0 to 8, 11, 12.
  *
  *   uint8_t out[NXA_RECORD_MAX];
  *   nxa_reply r = nxa_sum(key, key_count, answer, answer_count, out, sizeof out);
@@ -166,6 +174,7 @@ nxa_reply nxa_sum(const uint8_t *first, size_t first_len, const uint8_t *second,
  * Refused:  1 to 7, record 1; 1 to 7, record 2, where 1 needs 1 to 6 bytes; 8, record 2, place 6; 10, record 0, place the product of
  *           the dimensions of the two languages, which is over 64, however few words they share; 11, record 0, place the dimension, 33
  *           to 64; then 12, record 0, place the bytes needed. A refusal of the first record is the whole answer.
+ * Numbers:  0 to 8, 10, 11, 12.
  *
  *   uint8_t out[NXA_RECORD_MAX];
  *   nxa_reply r = nxa_meet(first, first_count, second, second_count, out, sizeof out);
@@ -180,6 +189,7 @@ nxa_reply nxa_meet(const uint8_t *first, size_t first_len, const uint8_t *second
  * Granted:  length is 15 + 4*a*d for a complement of dimension d, value 0.
  * Refused:  1 to 7, record 1; 11, record 0, place 33, the only dimension over 32 that there can be; then 12, record 0, place the bytes
  *           needed.
+ * Numbers:  0 to 7, 11, 12.
  *
  *   uint8_t rest[NXA_RECORD_MAX];
  *   nxa_reply r = nxa_complement(bytes, count, rest, sizeof rest);
@@ -192,6 +202,7 @@ nxa_reply nxa_complement(const uint8_t *record, size_t record_len, uint8_t *out,
  * Writes:   the minimal record of the mirror, length bytes.
  * Granted:  length is 15 + 4*a*d, d being the record's own dimension, value 0.
  * Refused:  1 to 7, record 1; then 12, record 0, place the bytes needed.
+ * Numbers:  0 to 7, 12.
  *
  *   uint8_t backward[NXA_RECORD_MAX];
  *   nxa_reply r = nxa_mirror(bytes, count, backward, sizeof backward);
@@ -208,6 +219,7 @@ nxa_reply nxa_mirror(const uint8_t *record, size_t record_len, uint8_t *out, siz
  * Refused:  1 to 7, record 1; 1 to 7, record 2, where 1 needs 1 to 6 bytes; 8, record 2, place 6; 11, record 0, place the dimension,
  *           33 to 64; then 12, record 0, place the bytes needed. A refusal of the first record is the whole answer. NXA_RECORD_MAX bytes
  *           are always enough.
+ * Numbers:  0 to 8, 11, 12.
  *
  *   uint8_t out[NXA_RECORD_MAX];
  *   nxa_reply r = nxa_product(first, first_count, second, second_count, out, sizeof out);
@@ -224,6 +236,7 @@ nxa_reply nxa_product(const uint8_t *first, size_t first_len, const uint8_t *sec
  * Granted:  length is 15 + 4*a*d for a star of dimension d, value 0.
  * Refused:  1 to 7, record 1; 14, record 1, place 0, where the record accepts the empty word; 11, record 0, place 33, the only dimension
  *           over 32 that there can be; then 12, record 0, place the bytes needed.
+ * Numbers:  0 to 7, 11, 12, 14.
  *
  *   uint8_t out[NXA_RECORD_MAX];
  *   nxa_reply r = nxa_star(bytes, count, out, sizeof out);
@@ -238,6 +251,7 @@ nxa_reply nxa_star(const uint8_t *record, size_t record_len, uint8_t *out, size_
  * Writes:   the record, which is minimal, length bytes.
  * Granted:  length is 15, 23, 23, 31, 31, 27 for numbers 0 to 5, value 0.
  * Refused:  13, record 0, place the number; then 12, record 0, place the bytes needed.
+ * Numbers:  0, 12, 13.
  *
  *   uint8_t x[NXA_RECORD_MAX];
  *   nxa_reply r = nxa_catalogue(4, x, sizeof x);
@@ -253,10 +267,12 @@ nxa_reply nxa_catalogue(size_t number, uint8_t *out, size_t out_len);
  *             2 differ dim 1 word 00 accepted-by answer    the first word that tells the two apart, `-` for the empty word
  *             3 refused 7 15                               a record's own refusal, number and place
  *             too long                                     line 0 of a longer script, and its only one
- *           Marking ends with the last record, after a refusal 1 to 6, and after any refusal of the key; after 7 or 8 of an answer it
- *           goes on. A script of 0 bytes has no lines; one of 1 to 6 bytes, say 3, has the line `0 refused 1 3`.
+ *           A line says `refused` only with 1 to 8. Marking ends with the last record, after a refusal 1 to 6, and after any refusal of
+ *           the key; after 7 or 8 of an answer it goes on. A script of 0 bytes has no lines; one of 1 to 6 bytes, say 3, has the line
+ *           `0 refused 1 3`.
  * Granted:  length is that of the line, 0 where there is none; value 0.
  * Refused:  12, record 0, place the bytes needed. NXA_LINE_MAX bytes are always enough.
+ * Numbers:  0, 12.
  *
  * Each call walks the script up to the record asked for. To mark a whole script, ask for index 0, 1, 2 and so on until length is 0.
  * No script can hold a blank: an answer of 0 bytes adds nothing to it. nxa_compare takes one.

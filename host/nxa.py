@@ -10,6 +10,11 @@ service writes comes back as bytes. Where the desk refuses, a function raises Re
     >>> nxa.compare(x, nxa.catalogue(1))
     Comparison(same=False, word=b'\\x00\\x00', accepted_by=2)
 
+A word with a letter outside the record's alphabet is not accepted, not even where the record accepts every word:
+
+    >>> nxa.test(nxa.catalogue(1), [0, 1]), nxa.test(nxa.catalogue(1), [0, 2, 1])
+    (True, False)
+
 A second record of 0 bytes, a blank, means the machine with no states over the first one's letters:
 
     >>> nxa.compare(nxa.catalogue(3), b"")
@@ -38,7 +43,7 @@ Word = Union[Bytes, Sequence[int]]
 
 _NO_ROOM = 12
 
-# What each refusal says, and what its place tells.
+# What each refusal says, and what its place tells. 9 no longer comes.
 _REASONS = {
     1: ("the record is shorter than 7 bytes", "its length"),
     2: ("the mark is wrong", "the first wrong byte"),
@@ -48,7 +53,6 @@ _REASONS = {
     6: ("the length does not fit the states and letters", "the length needed"),
     7: ("a field names a state that there is not", "the offset of the first such field"),
     8: ("the records have different letters", "their number's offset"),
-    9: ("the word has a letter outside the alphabet", "the index of the first"),
     10: ("the product of the dimensions is over 64", "the product"),
     11: ("the result has more than 32 states", "its dimension"),
     12: ("the lent buffer is too short", "the bytes needed"),
@@ -173,7 +177,7 @@ def rewrite(record: Bytes, room: int = RECORD_MAX) -> bytes:
 
 
 def test(record: Bytes, word: Word) -> bool:
-    """Says whether a record accepts a word. Refused 1 to 7, 9."""
+    """Says whether a record accepts a word; one with a letter outside its alphabet, wherever it comes, it does not. Refused 1 to 7."""
     return _granted(_test(*_slices(_bytes(record), _letters(word)))).value == 1
 
 

@@ -132,16 +132,61 @@ static void refuse_stray_bits(void)
     }
 }
 
-/* Row 9, after the record's own checks. */
-static void refuse_letters(void)
+/* ---- letters outside the alphabet are not accepted */
+
+/* A word that is accepted, and with a letter put in, at its front, at its end and at each place between, is not. Where the record accepts
+ * every word, a service would accept it that left the letter out, took another one for it, or read only up to it or from it on. */
+static void test_foreign(const char *what, const record *r, const char *letters, size_t count, int foreign)
 {
-    const record r = x12(), wide = uniform(0, 8, 0);
-    test_word("a = 2, word 0 2", &r, "\0\2", 2, refused(NXA_FOREIGN_LETTER, 1, 1));
-    test_word("a = 2, word 2 2", &r, "\2\2", 2, refused(NXA_FOREIGN_LETTER, 1, 0));
-    test_word("a = 2, word 255", &r, "\xFF", 1, refused(NXA_FOREIGN_LETTER, 1, 0));
-    test_word("a = 2, word 0 1 1 3 2", &r, "\0\1\1\3\2", 5, refused(NXA_FOREIGN_LETTER, 1, 3));
-    test_word("a = 8, word 7", &wide, "\7", 1, granted(0, 0));
-    test_word("a = 8, word 8", &wide, "\x08", 1, refused(NXA_FOREIGN_LETTER, 1, 0));
+    char pasted[16];
+    size_t place;
+    test_word(what, r, letters, count, granted(0, 1));
+    for (place = 0; place <= count; place++) {
+        memcpy(pasted, letters, place);
+        pasted[place] = (char)foreign;
+        memcpy(pasted + place + 1, letters + place, count - place);
+        test_word(what, r, pasted, count + 1, granted(0, 0));
+    }
+}
+
+static void foreign_letters(void)
+{
+    const record all = uniform(1, 2, 1), wide = uniform(1, 8, 1), largest = uniform(31, 8, 0x7FFFFFFFu);
+    const record r = x12(), empty = power_of(0, 0, 2), none = uniform(0, 8, 0);
+    test_foreign("all words, a = 2, letter 2", &all, "\0\1\1\0\1", 5, 2);
+    test_foreign("all words, a = 2, letter 3", &all, "\0\1\1\0\1", 5, 3);
+    test_foreign("all words, a = 2, letter 128", &all, "\1\0\0\1", 4, 128);
+    test_foreign("all words, a = 2, letter 255", &all, "\1\0\0\1", 4, 255);
+    test_foreign("all words, a = 2, letter 2 alone", &all, "", 0, 2);
+    test_foreign("all words, a = 2, letter 255 alone", &all, "", 0, 255);
+    test_foreign("all words, a = 8, letter 8", &wide, "\0\7\3\7", 4, 8);
+    test_foreign("all words, a = 8, letter 255", &wide, "\0\7\3\7", 4, 255);
+    test_foreign("all words, 31 states, letter 8", &largest, "\7\0\1\6", 4, 8);
+    test_foreign("X, 000 and letter 2", &r, "\0\0\0", 3, 2);
+    test_foreign("the empty word only, and letter 2", &empty, "", 0, 2);
+    test_word("all words, 2 2 2", &all, "\2\2\2", 3, granted(0, 0));
+    test_word("X, 0 1 1 3 2", &r, "\0\1\1\3\2", 5, granted(0, 0));
+    test_word("no states, a = 8, letter 7", &none, "\7", 1, granted(0, 0));
+    test_word("no states, a = 8, letter 8", &none, "\x08", 1, granted(0, 0));
+    expect(NXA_FOREIGN_LETTER == 9, "the number that no longer comes", "test", "the header");
+}
+
+/* One letter of a long word, which its record accepts. */
+static void foreign_letter_of_many(void)
+{
+    static uint8_t word[70000];
+    static const size_t places[3] = {0, sizeof word / 2, sizeof word - 1};
+    const record all = uniform(1, 2, 1);
+    size_t i;
+    for (i = 0; i < sizeof word; i++) {
+        word[i] = (uint8_t)(i % 3 == 0);
+    }
+    expect_reply("test", "70,000 letters", nxa_test(all.bytes, all.length, word, sizeof word), granted(0, 1));
+    for (i = 0; i < 3; i++) {
+        word[places[i]] = 2;
+        expect_reply("test", "70,000 letters, one of them 2", nxa_test(all.bytes, all.length, word, sizeof word), granted(0, 0));
+        word[places[i]] = 0;
+    }
 }
 
 /* ---- what is granted */
@@ -201,7 +246,8 @@ int main(void)
     refuse_head();
     refuse_length();
     refuse_stray_bits();
-    refuse_letters();
+    foreign_letters();
+    foreign_letter_of_many();
     limits();
     samples();
     words();

@@ -145,10 +145,6 @@ class Refusals(Desk):
         for service in self.TWO:
             self.refused(8, 2, 6, service, record(0, 1, 0, 0), record(0, 2, 0, 0))
 
-    def test_9_foreign_letter(self):
-        self.refused(9, 1, 1, nxa.test, X, [0, 2])
-        self.refused(9, 1, 0, nxa.test, X, b"\xff")
-
     def test_10_and_11_too_large(self):
         self.refused(10, 0, 72, nxa.meet, power(0, 8, 1), power(0, 7, 1))
         self.refused(11, 0, 40, nxa.sum, power(0, 20, 2), power(1, 20, 2))
@@ -172,14 +168,38 @@ class Refusals(Desk):
         self.refused(7, 1, 11, nxa.star, record(1, 1, 1, 3, 1))
 
     def test_in_words(self):
-        self.assertEqual(str(self.refused(9, 1, 1, nxa.test, X, [0, 2])),
-                         "refused (9, record 1): the word has a letter outside the alphabet; the index of the first: 1")
+        self.assertEqual(str(self.refused(1, 1, 0, nxa.test, b"", [255])),
+                         "refused (1, record 1): the record is shorter than 7 bytes; its length: 0")
         self.assertEqual(str(self.refused(13, 0, 6, nxa.catalogue, 6)),
                          "refused (13): there is no such number in the catalogue; the number: 6")
         self.assertEqual(str(self.refused(14, 1, 0, nxa.star, X)),
                          "refused (14, record 1): the record accepts the empty word, so that it has no star; the place: 0")
-        self.assertEqual(sorted(nxa._REASONS), list(range(1, 15)))
+        self.assertEqual(sorted(nxa._REASONS), [number for number in range(1, 15) if number != 9])
         self.assertIn("unknown", str(nxa.Refused(99, 0, 0)))
+
+
+class ForeignLetters(Desk):
+    """A word with a letter outside the alphabet is not accepted, wherever that letter comes."""
+
+    def test_each_place(self):
+        for letters in (1, 2, 8):
+            last = letters - 1
+            word = [0, last, last, 0, last]
+            everything, largest = uniform(1, letters, 1), uniform(31, letters, 2 ** 31 - 1)
+            for machine in (everything, largest, power(last, 0, letters), record(0, letters, 0, 0)):
+                for foreign in (letters, 2 * letters, 128, 255):
+                    for place in range(len(word) + 1):
+                        self.assertIs(nxa.test(machine, word[:place] + [foreign] + word[place:]), False)
+                    for given in ([foreign], (foreign,), bytes([foreign]), bytes([foreign]) * 1000):
+                        self.assertIs(nxa.test(machine, given), False)
+            for machine in (everything, largest):
+                self.assertIs(nxa.test(machine, word), True)
+
+    def test_long_words(self):
+        word = bytes([0, 1, 1]) * 30000
+        self.assertIs(nxa.test(EVERYTHING, word), True)
+        for pasted in (word + b"\2", b"\2" + word, word + b"\2" + word):
+            self.assertIs(nxa.test(EVERYTHING, pasted), False)
 
 
 class Blanks(Desk):

@@ -36,7 +36,9 @@ complement: dimension 3, 39 bytes
 mirror: dimension 2, 31 bytes
 test: - is accepted
 test: 000 is accepted
-test: 001 is not accepted' "$(said "$record" - 000 001)"
+test: 001 is not accepted
+test: 0002 is not accepted
+test: x is not accepted' "$(said "$record" - 000 001 0002 x)"
 expect 1 'check: refused (6): the record'"'"'s length does not fit its states and letters; bytes needed 47' "$(said "$record\\000" -)"
 expect 1 'check: refused (1): the record is too short to have a head: its bytes number 0' "$(said '')"
 printf "$x" >"$other"

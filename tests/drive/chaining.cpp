@@ -169,6 +169,7 @@ void blanks(Run& run)
     }
 }
 
+// The services too that only the laws ask: a run is to see every number of each service that it asks.
 void refusals(Run& run)
 {
     std::vector<Bytes> records = drive::refused_records();
@@ -178,8 +179,12 @@ void refusals(Run& run)
     records.push_back(drive::lengths(32, 0, 0, 1));
     for (const Bytes& first : records) {
         star_sizes(run, first);
+        run.test(first, {});
+        run.one_sizes("minimal", nxa_minimal, second::minimal, first);
+        run.one_sizes("mirror", nxa_mirror, second::mirror, first);
         for (const Bytes& other : records) {
             product_sizes(run, first, other);
+            run.two_sizes("sum", nxa_sum, second::sum, first, other);
         }
     }
 }

@@ -47,6 +47,16 @@ Reply plain(const nxa_reply& reply)
     return {reply.number, reply.record, reply.place, reply.length, reply.value};
 }
 
+// The name of its list of numbers.
+const std::string refused_line = "a refused line";
+
+// Whether a line says `refused`, and with which number.
+bool says_refused(const Bytes& line, std::size_t& number)
+{
+    const std::string text(line.begin(), line.end());
+    return std::sscanf(text.c_str(), "%*u refused %zu", &number) == 1;
+}
+
 }  // namespace
 
 Guarded::Guarded(const Bytes& content) : all_(content.size() + 2 * margin, 0)
@@ -107,6 +117,16 @@ void Run::fail(const Request& request, const std::string& what) const
     std::exit(1);
 }
 
+// Notes that a number came, which must be one of those that the second program lists by this name.
+void Run::count(const Request& request, const std::string& service, std::size_t number)
+{
+    const std::vector<std::size_t>& known = second::numbers_of(service);
+    if (std::find(known.begin(), known.end(), number) == known.end()) {
+        fail(request, "number " + std::to_string(number) + " is not among those of " + service);
+    }
+    came_[service].insert(number);
+}
+
 // Old bytes of no pattern, so that a byte written by mistake is seen.
 Bytes Run::lent_bytes(std::size_t size)
 {
@@ -137,6 +157,7 @@ Answer Run::put(Request request, Desk desk, Second expected)
     if (!equal(got, answer.reply)) {
         fail(request, "replies " + shown(got) + ", expected " + shown(answer.reply));
     }
+    count(request, request.service, got.number);
     if (!lent.holds(answer.buffer)) {
         const Bytes found(lent.data(), lent.data() + lent.size());
         fail(request, found == answer.buffer ? "bytes beside the lent buffer are written"
@@ -195,11 +216,18 @@ Answer Run::catalogue(NumberService desk, std::size_t number, std::size_t lent)
 
 Answer Run::mark(IndexService desk, const Bytes& script, std::size_t index, std::size_t lent)
 {
-    return put({"mark", {script}, index, lent},
-               [&](std::vector<Guarded>& in, Guarded& out) {
-                   return desk(in[0].data(), in[0].size(), index, out.data(), out.size());
-               },
-               [&](Bytes& out) { return second::mark(script, index, out); });
+    const Request request{"mark", {script}, index, lent};
+    const Answer answer = put(request,
+                              [&](std::vector<Guarded>& in, Guarded& out) {
+                                  return desk(in[0].data(), in[0].size(), index, out.data(), out.size());
+                              },
+                              [&](Bytes& out) { return second::mark(script, index, out); });
+    came_.try_emplace(refused_line);   // so that its numbers are asked for at the end, also where no line said it
+    std::size_t number = 0;
+    if (says_refused(answer.written(), number)) {
+        count(request, refused_line, number);
+    }
+    return answer;
 }
 
 void Run::one_sizes(const char* service, OneService desk, SecondOne expected, const Bytes& record)
@@ -243,6 +271,18 @@ void Run::law(bool holds, const char* what, const std::vector<Bytes>& inputs)
 
 int Run::finish() const
 {
+    bool all_came = true;
+    for (const auto& [service, numbers] : came_) {
+        for (std::size_t number : second::numbers_of(service)) {
+            if (numbers.count(number) == 0) {
+                std::printf("%s: %s: number %zu never came\n", name_.c_str(), service.c_str(), number);
+                all_came = false;
+            }
+        }
+    }
+    if (!all_came) {
+        return 1;
+    }
     std::printf("%s: %zu requests agree\n", name_.c_str(), requests_);
     return 0;
 }

@@ -4,6 +4,8 @@
 
 #include <cstddef>
 #include <cstdint>
+#include <map>
+#include <set>
 #include <string>
 
 #include "../second/generate.hpp"
@@ -62,7 +64,8 @@ public:
     using SecondOne = Reply (*)(const Bytes&, Bytes&);
     using SecondTwo = Reply (*)(const Bytes&, const Bytes&, Bytes&);
 
-    // Each puts one request to both, compares all there is to compare and gives the answer.
+    // Each puts one request to both, compares all there is to compare and gives the answer. The number of a reply must be one that the
+    // service can have, and so must that of a line that says `refused`.
     Answer check(const Bytes& record);
     Answer test(const Bytes& record, const Word& word);
     Answer one(const char* service, OneService desk, SecondOne expected, const Bytes& record, std::size_t lent);
@@ -93,10 +96,13 @@ public:
         }
     }
 
-    int finish() const;   // the closing line
+    // The closing line. It fails where a service was asked and a number that its reply can have did not come: the fixed cases of each driver
+    // are to make every one come.
+    int finish() const;
 
 private:
     [[noreturn]] void fail(const Request& request, const std::string& what) const;
+    void count(const Request& request, const std::string& service, std::size_t number);
     Bytes lent_bytes(std::size_t size);
     template <typename Desk, typename Second>
     Answer put(Request request, Desk desk, Second expected);
@@ -107,6 +113,7 @@ private:
     std::size_t first_ = 0;
     std::size_t number_ = SIZE_MAX;   // no random case: the fixed ones
     std::size_t requests_ = 0;
+    std::map<std::string, std::set<std::size_t>> came_;   // which numbers, by the name that second::numbers_of has
     Chance filling_;
 };
 

@@ -143,13 +143,22 @@ Bytes other_record(Source& source, const Bytes& first)
     }
 }
 
+// Mostly letters of the record, in some words with one put in that it does not have, at any place. The others are bytes as they come, so that
+// a foreign letter stands first as a rule.
 Word any_word(Source& source, const Bytes& record)
 {
-    const std::size_t letters = record.size() > 6 ? record[6] : 0;
-    const bool own = letters > 0 && source.below(8) != 0;
+    const std::size_t letters = record.size() > 6 ? record[6] : 0, kind = source.below(8);
     Word word = source.bytes(source.below(4) == 0 ? source.two_bytes() % 2048 : source.below(short_word));
+    if (letters == 0 || kind == 0) {
+        return word;
+    }
     for (std::uint8_t& letter : word) {
-        letter = own ? static_cast<std::uint8_t>(letter % letters) : letter;
+        letter = static_cast<std::uint8_t>(letter % letters);
+    }
+    if (kind <= 2) {
+        const std::size_t place = source.two_bytes() % (word.size() + 1);
+        const std::size_t foreign = letters + source.below(256 - letters);
+        word.insert(word.begin() + static_cast<std::ptrdiff_t>(place), static_cast<std::uint8_t>(foreign));
     }
     return word;
 }

@@ -34,6 +34,9 @@ std::size_t paths_from(const Machine& machine, std::size_t state, const Word& wo
     if (at == word.size()) {
         return machine.accepting[state] != 0 ? 1 : 0;
     }
+    if (word[at] >= machine.letters) {
+        return 0;
+    }
     std::size_t count = 0;
     for (std::size_t to = 0; to < machine.states; ++to) {
         if (machine.rows[word[at]][state][to] != 0) {

@@ -16,7 +16,7 @@ using second::Word;
 // All words of fewer letters than the bound, in shortlex order.
 std::vector<Word> words_shorter_than(std::size_t bound, std::size_t letters);
 
-// The number of paths along the word, each one walked to its end.
+// The number of paths along the word, each one walked to its end. No path goes on with a letter that the machine does not have.
 std::size_t path_count(const Machine& machine, const Word& word);
 
 // A language as a question, each word asked once.

@@ -16,7 +16,7 @@ struct Reply {
 // A lent buffer keeps its size; it keeps its bytes on a refusal and past the bytes written.
 Reply check(const Bytes& record);
 Reply rewrite(const Bytes& record, Bytes& out);
-Reply test(const Bytes& record, const Word& word);              // value 1: accepted
+Reply test(const Bytes& record, const Word& word);              // value 1: accepted; a word with a foreign letter is not
 Reply minimal(const Bytes& record, Bytes& out);                 // value: the dimension
 // In the services on two records a second one of 0 bytes, a blank, is the machine with no states over the first one's letters.
 Reply compare(const Bytes& first, const Bytes& other, Bytes& word);   // value 0: same, else who accepts
@@ -31,6 +31,10 @@ Reply mark(const Bytes& script, std::size_t index, Bytes& out);
 
 // The whole text that the marking program prints.
 std::string mark_program(const Bytes& script);
+
+// By the name of a service every number that its reply can have, 0 among them; by `a refused line` those with which a line of a marking
+// says `refused`.
+const std::vector<std::size_t>& numbers_of(const std::string& service);
 
 }  // namespace second
 

@@ -77,6 +77,10 @@ void brute_single(Chance& chance, std::size_t number)
     for (const Word& word : brute::words_shorter_than(6, letters)) {
         expect((second::test(record, word).value == 1) == language(word), "brute test", number);
     }
+    for (const Word& word : brute::words_shorter_than(5, letters + 1)) {
+        const Reply reply = second::test(record, word);
+        expect(reply.number == 0 && (reply.value == 1) == language(word), "brute test with a foreign letter", number);
+    }
     const std::size_t rank = brute::table_rank(language, machine.states, letters);
     expect(reply_of(second::minimal, record).value == rank, "brute dimension", number);
     expect(bytes_of(second::minimal, record) == brute::minimal_record(language, machine.states, letters),

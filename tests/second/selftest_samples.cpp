@@ -57,7 +57,6 @@ void service_refusals()
     expect(is_refusal(second::sum(one_letter, nothing, out), 8, 2, 6), "row 8");
     expect(is_refusal(second::compare({0}, {0, 0}, out), 1, 1, 1), "first record first");
     expect(is_refusal(second::compare(nothing, {0}, out), 1, 2, 1), "second record");
-    expect(is_refusal(second::test(nothing, {0, 2}), 9, 1, 1), "row 9");
     expect(is_refusal(second::meet(power(0, 8, 1), power(0, 7, 1), out), 10, 0, 72), "row 10");
     expect(is_refusal(second::sum(power(0, 20, 2), power(1, 20, 2), out), 11, 0, 40), "row 11");
     Bytes shorter(30, 7);
@@ -69,6 +68,43 @@ void service_refusals()
     expect(is_refusal(second::compare(everything, x12, none), 12, 0, 2), "row 12 of a comparison");
     expect(second::compare(everything, nothing, none).value == 1, "an empty word needs no bytes");
     expect(second::compare(x_minimal, x12, none).number == 0, "the same needs no bytes");
+}
+
+bool is_not_accepted(const Reply& reply)
+{
+    return reply.number == 0 && reply.record == 0 && reply.place == 0 && reply.length == 0 && reply.value == 0;
+}
+
+// The word with each of some foreign letters at each place.
+void foreign_in(const Bytes& record, const Word& word)
+{
+    const std::uint8_t letters = record[6];
+    for (std::uint8_t foreign : {letters, static_cast<std::uint8_t>(2 * letters), std::uint8_t{128}, std::uint8_t{255}}) {
+        for (std::size_t place = 0; place <= word.size(); ++place) {
+            Word pasted = word;
+            pasted.insert(pasted.begin() + static_cast<std::ptrdiff_t>(place), foreign);
+            expect(is_not_accepted(second::test(record, pasted)), "a foreign letter", foreign);
+        }
+    }
+}
+
+// A word with a foreign letter is not accepted, wherever that letter comes. The first record accepts every word, so that one would be
+// accepted that is read without the letter, or with another one in its place, or only up to it. Refusals of the record come first.
+void foreign_letters()
+{
+    for (std::uint8_t letters = 1; letters <= 8; ++letters) {
+        const auto last = static_cast<std::uint8_t>(letters - 1);
+        const Bytes all = fields(1, letters, std::vector<unsigned>(2 + letters, 1));
+        for (const Word& word : {Word{}, Word{last}, Word{0, last, 0}, Word{last, last, 0, last, 0, 0}}) {
+            expect(second::test(all, word).value == 1, "all words", letters);
+            for (const Bytes& record : {all, power(last, 0, letters), power(last, 1, letters), fields(0, letters, {0, 0})}) {
+                foreign_in(record, word);
+            }
+        }
+        expect(is_not_accepted(second::test(all, Word(9, letters))), "foreign letters alone", letters);
+    }
+    expect(is_refusal(second::test({}, {255}), 1, 1, 0), "row 1 before a foreign letter");
+    expect(is_refusal(second::test(fields(1, 1, {2, 0, 0}), {0, 255}), 7, 1, 7), "row 7 before a foreign letter");
 }
 
 // A second record of 0 bytes: the first record's own refusals, then what the record with no states gives over the same letters.
@@ -199,6 +235,7 @@ void all_samples()
 {
     record_refusals();
     service_refusals();
+    foreign_letters();
     blanks();
     catalogue_samples();
     language_samples();

@@ -20,7 +20,7 @@ using stored::one_sizes;
 using stored::repeated;
 using stored::two_sizes;
 
-// But for product and star, whose cases stand last.
+// But for product and star, whose cases stand after those of the others.
 const OneService one_services[] = {{"rewrite", second::rewrite},
                                    {"minimal", second::minimal},
                                    {"complement", second::complement},
@@ -166,6 +166,33 @@ void long_words(Book& book)
         book.test(record, mixed);
         book.test(record, joined(mixed, Bytes{2}));
         book.test(record, joined(Bytes{255}, mixed));
+    }
+}
+
+// A word with a letter outside the alphabet is not accepted: the letter alone, many of it, and at the front, in the middle and at the end of
+// a word. Beside each the same word without it.
+void foreign_letters(Book& book)
+{
+    for (std::size_t letters : {1, 2, 8}) {
+        const auto last = static_cast<std::uint8_t>(letters - 1);
+        const Word word = {0, last, last, 0, last, 0};
+        for (const Bytes& record : {drive::all_words(letters), drive::uniform(31, letters, 0x7FFFFFFFu), drive::nonempty_words(letters),
+                                    drive::empty_word(letters), drive::power(last, 6, letters), drive::nothing(letters)}) {
+            book.test(record, Bytes{});
+            book.test(record, word);
+            for (std::size_t letter : {letters, 2 * letters, std::size_t{128}, std::size_t{255}}) {
+                const Bytes foreign = {static_cast<std::uint8_t>(letter)};
+                book.test(record, foreign);
+                book.test(record, repeated(foreign, 300));
+                for (std::size_t place : {0, 3, 6}) {
+                    Word pasted = word;
+                    pasted.insert(pasted.begin() + static_cast<std::ptrdiff_t>(place), foreign[0]);
+                    book.test(record, pasted);
+                }
+                book.test(record, joined(repeated(word, 1000), foreign));
+                book.test(record, joined(foreign, repeated(word, 1000)));
+            }
+        }
     }
 }
 
@@ -355,6 +382,7 @@ int main(int argc, char** argv)
         random_case(book, own);
     }
     stored::chaining(book, seed, count);
+    foreign_letters(book);
     book.finish();
     return 0;
 }
