@@ -3,7 +3,7 @@ use mathlib.Core.Path.{_≡_, refl, sym, ap, _∙_}
 use mathlib.Core.Bool.{Bool, true, false, _&&_, cond, and-true, and-false}
 use mathlib.Core.Logic.{_⊎_, inl, inr}
 use mathlib.Core.List.{List, [], _∷_, _++_}
-use Prim.Native.Nat.{ℕ, _≤_, _<_, _^_}
+use Prim.Native.Nat.{ℕ, _<_}
 use native.Mathlib.Omega.{arith}
 use borrow.Author.Tests.{ltb-true}
 use lib.Dec.{ltb}
@@ -33,7 +33,7 @@ use Rattle.record.specs.Held.{Holds}
 use Rattle.record.proofs.Held.{bits-held}
 use Rattle.testing.specs.Testing.{testedOf, testOf, Tests, Reached}
 use Rattle.testing.specs.declared.Tested.{Tested}
-use Rattle.testing.specs.declared.Tested.the-variants.{Accepted, Rejected, Refused}
+use Rattle.testing.specs.declared.Tested.the-variants.{Accepted, Refused}
 
 -- ---- the row reached
 

@@ -50,20 +50,21 @@ fn step(t: &Table, a: usize, l: usize, x: Row) -> Row
     rows::times(t, l, x)
 }
 
-// The row that the machine reaches along a word: the initial row, one letter after another. With the first letter that leads nowhere the
-// reading ends, since nothing that comes after it leads back.
+// The row that the machine reaches along a word: the initial row, one letter after another. Once no state is reached the reading ends, since
+// no letter leads back.
 fn follow(t: &Table, m: Machine, word: &[u8]) -> Row
     requires { ⌜ Valid (now t) m ⌝ }
     ensures { λ r. ⌜ Reached (now (t .entry)) m (now (word .entry)) r ⌝ }
 {
+    let a = m.letters;
     let mut x = m.initial;
     let mut i = 0;
     while i < word.len() {
-        let y = step(t, m.letters, record::size(word[i]), x);
-        if rows::is_none(y) {
-            return y;
+        let l = record::size(word[i]);
+        if rows::is_none(x) {
+            return x;
         }
-        x = y;
+        x = step(t, a, l, x);
         i += 1;
     }
     x

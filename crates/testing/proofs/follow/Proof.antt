@@ -1,5 +1,5 @@
 -- `follow`: the row at hand is the one reached along the letters passed.
-use mathlib.Core.Path.{_≡_, refl, sym, ap, subst, _∙_}
+use mathlib.Core.Path.{_≡_, refl, sym, ap, _∙_}
 use mathlib.Core.List.{[], _∷_, _++_}
 use Prim.Native.Nat.{_+_, _-_, _≤_}
 use native.Mathlib.Omega.{arith}
@@ -8,6 +8,7 @@ use borrow.Author.Needs.{needs}
 use borrow.Author.Tests.{eqb-true}
 use lib.ListN.{length, take, drop, take-append-drop}
 use lib.Seq.{take-suc, take-all}
+use Rattle.rows.specs.declared.Machine.{Machine}
 use Rattle.rows.specs.Row.{mask}
 use Rattle.rows.specs.Machine.{Valid}
 use Rattle.testing.specs.Testing.{Reached}
@@ -16,13 +17,13 @@ use Rattle.testing.proofs.follow.Statement.{statement}
 use Rattle.testing.proofs.follow.Tie as tie
 
 abbrev Inv-loop : tie.InvT-loop
-Inv-loop t m word x₀ i₀ x i = (i ≤ length word) × (Valid t m → Reached t m (take i word) x)
+Inv-loop t word a x₀ i₀ x i = (i ≤ length word) × ((m : Machine) → m .letters ≡ a → m .initial ≡ x₀ → Valid t m → Reached t m (take i word) x)
 
 abbrev μ-loop : tie.MeasureT-loop
-μ-loop t m word x₀ i₀ x i = length word - i
+μ-loop t word a x₀ i₀ x i = length word - i
 
 loop-holds : tie.Need-loop-holds Inv-loop μ-loop
-loop-holds c = (omega arith, λ v. reached-start (c .before .before .args .t .now) (c .before .before .args .m) v)
+loop-holds c = (omega arith, λ m l e v. rw (← e) (reached-start (c .before .before .args .t .now) m v))
 
 shared-slice-read-size : tie.Need-shared-slice-read-size Inv-loop μ-loop
 shared-slice-read-size c = omega arith
@@ -30,37 +31,20 @@ shared-slice-read-size c = omega arith
 size-requires : tie.Need-size-requires Inv-loop μ-loop
 size-requires c κs = omega arith
 
-step-requires : tie.Need-step-requires Inv-loop μ-loop
-step-requires c κs = c .before .before .before .before .before .before .pre .letters
-
 is-none-requires : tie.Need-is-none-requires Inv-loop μ-loop
 is-none-requires c κs = search needs
 
--- The row that one letter more reaches.
-further : (c : tie.After-step Inv-loop μ-loop)
-    → Reached (c .before .before .before .before .before .before .before .args .t .now) (c .before .before .before .before .before .before .before .args .m)
-    (take (c .before .before .before .before .loop .i + 1) (c .before .before .before .before .before .before .before .args .word .now)) (c .step .result)
-further c =
-    let loop = c .before .before .before .before in
-    let s = loop .before .before .before in
-    let a = s .args in
-    let w = a .word .now in
-    let i = loop .loop .i in
-    let r = loop .loop .inv .1 (s .pre) in
-    let one : take (i + 1) w ≡ take i w ++ (c .before .size .result ∷ []) =
-    ap (λ k. take k w) (add-one i) ∙ take-suc w i 0 (c .before .before .before .loop-test .taken) ∙ ap (λ x. take i w ++ (x ∷ [])) (sym (c .before .size .ensures .0)) in
-    rw one
-    (reached-letter (a .t .now) (a .m) (s .pre) (take i w) (c .before .size .result) (loop .loop .x) (c .step .result) r (c .step .ensures (a .m .states) (r .below)))
-
 returns : tie.Need-returns Inv-loop μ-loop
 returns c =
-    let k = c .before .before in
-    let s = k .before .before .before .before .before .before .before in
-    let a = s .args in
-    let w = a .word .now in
-    let i = k .before .before .before .before .loop .i in
-    let none : mask (k .step .result) ≡ 0 = eqb-true _ _ (sym (c .before .is-none .ensures) ∙ c .if1 .taken) in
-    rw take-append-drop at (reached-none (a .t .now) (a .m) (s .pre) (take (i + 1) w) (drop (i + 1) w) (k .step .result) (further k) none)
+    let loop = c .before .before .before .before .before in
+    let s = loop .before .before .before in
+    let w = s .args .word .now in
+    let i = loop .loop .i in
+    let none : mask (loop .loop .x) ≡ 0 = eqb-true _ _ (sym (c .before .is-none .ensures) ∙ c .if1 .taken) in
+    rw take-append-drop at (reached-none (s .args .t .now) (s .args .m) (s .pre) (take i w) (drop i w) (loop .loop .x) (loop .loop .inv .1 (s .args .m) refl refl (s .pre)) none)
+
+step-requires : tie.Need-step-requires Inv-loop μ-loop
+step-requires c κs = c .before .before .before .before .before .before .before .before .pre .letters
 
 add-i : tie.Need-add-i Inv-loop μ-loop
 add-i c = omega arith
@@ -69,13 +53,26 @@ loop-less : tie.Need-loop-less Inv-loop μ-loop
 loop-less c = omega arith
 
 loop-again : tie.Need-loop-again Inv-loop μ-loop
-loop-again c = (omega arith, λ v. further (c .before .before))
+loop-again c =
+    let loop = c .before .before .before .before .before .before in
+    let a = loop .before .before .before .args in
+    let w = a .word .now in
+    let i = loop .loop .i in
+    let l = c .before .before .before .size .result in
+    let one : take (i + 1) w ≡ take i w ++ (l ∷ []) =
+    ap (λ k. take k w) (add-one i) ∙ take-suc w i 0 (c .before .before .before .before .before .loop-test .taken) ∙ ap (λ x. take i w ++ (x ∷ [])) (sym (c .before .before .before .size .ensures .0)) in (
+      omega arith,
+      λ m own e v.
+          let r = loop .loop .inv .1 m own e v in
+          let led = c .step .ensures (m .states) (r .below) in
+          rw one (reached-letter (a .t .now) m v (take i w) l (loop .loop .x) (c .step .result) r (rw own led)),
+    )
 
 returns-2 : tie.Need-returns-2 Inv-loop μ-loop
 returns-2 c =
     let s = c .before .before .before .before in
     let whole = take-all (c .before .loop .i) (s .args .word .now) (c .loop-test .left) in
-    rw whole at (c .before .loop .inv .1 (s .pre))
+    rw whole at (c .before .loop .inv .1 (s .args .m) refl refl (s .pre))
 
 pub follow-spec : {M : Type 1} → statement M
 follow-spec =
@@ -86,9 +83,9 @@ follow-spec =
     loop-holds
     shared-slice-read-size
     size-requires
-    step-requires
     is-none-requires
     returns
+    step-requires
     add-i
     loop-less
     loop-again
