@@ -125,33 +125,37 @@ not-both index m n w side e =
 
 -- ---- a line that says `refused`
 
-refused-fields : (index number place : ℕ) → refusedLine index number place ≡ decimal index ++ (ascii " refused " ++ (decimal number ++ (ascii " " ++ (decimal place ++ ascii "\n"))))
+-- What stands in it past the index and the space.
+abbrev refusal : ℕ → ℕ → List ℕ
+refusal number place = ascii "refused " ++ (decimal number ++ (ascii " " ++ (decimal place ++ ascii "\n")))
+
+refused-fields : (index number place : ℕ) → refusedLine index number place ≡ decimal index ++ (32 ∷ refusal number place)
 unfolding refusedLine
 refused-fields index number place = simp append-assoc (opened index (ascii " refused ") number (ascii " " ++ (decimal place ++ ascii "\n")))
 
 -- Its number is read back.
 pub refused-number : (i j m n p q : ℕ) → refusedLine i m p ≡ refusedLine j n q → m ≡ n
 refused-number i j m n p q e =
-    let l = sym (refused-fields i m p) ∙ e ∙ refused-fields j n q in
-    let t = split (decimal i) (decimal j) (ascii "refused " ++ (decimal m ++ (ascii " " ++ (decimal p ++ ascii "\n")))) (ascii "refused " ++ (decimal n ++ (ascii " " ++ (decimal q ++ ascii "\n")))) (dark-decimal i) (dark-decimal j) l in
+    let t = split (decimal i) (decimal j) (refusal m p) (refusal n q) (dark-decimal i) (dark-decimal j) (sym (refused-fields i m p) ∙ e ∙ refused-fields j n q) in
     let k = append-cancel-left (ascii "refused ") (decimal m ++ (ascii " " ++ (decimal p ++ ascii "\n"))) (decimal n ++ (ascii " " ++ (decimal q ++ ascii "\n"))) (t .1) in
     decimal-injective m n (split (decimal m) (decimal n) (decimal p ++ ascii "\n") (decimal q ++ ascii "\n") (dark-decimal m) (dark-decimal n) k .0)
 
 -- A line whose second field begins otherwise does not say it.
 other-field : (xs : List ℕ) (c : ℕ) (rest : List ℕ) (i n p : ℕ) → Dark xs → (c ≡ 114 → ⊥) → xs ++ (32 ∷ c ∷ rest) ≡ refusedLine i n p → ⊥
 other-field xs c rest i n p h other e =
-    let t = split xs (decimal i) (c ∷ rest) (ascii "refused " ++ (decimal n ++ (ascii " " ++ (decimal p ++ ascii "\n")))) h (dark-decimal i) (e ∙ refused-fields i n p) in
-    let u = t .1 in
+    let t = split xs (decimal i) (c ∷ rest) (refusal n p) h (dark-decimal i) (e ∙ refused-fields i n p) .1 in
     other cc
 
 module _ (i n p : ℕ) where
-  pub key-not-refused : (d : ℕ) → keyLine d ≡ refusedLine i n p → ⊥
+  dim-not-refused : (index c : ℕ) (words : List ℕ) (d : ℕ) → (c ≡ 114 → ⊥) → dimLine index (32 ∷ c ∷ words) d ≡ refusedLine i n p → ⊥
   unfolding dimLine
-  key-not-refused d e = other-field (decimal 0) 107 (ascii "ey dim " ++ (decimal d ++ ascii "\n")) i n p (dark-decimal 0) (λ z. omega arith) (sym (opened 0 (ascii " key dim ") d (ascii "\n")) ∙ e)
+  dim-not-refused index c words d other e = other-field (decimal index) c (words ++ (decimal d ++ ascii "\n")) i n p (dark-decimal index) other (sym (opened index (32 ∷ c ∷ words) d (ascii "\n")) ∙ e)
+
+  pub key-not-refused : (d : ℕ) → keyLine d ≡ refusedLine i n p → ⊥
+  key-not-refused d = dim-not-refused 0 107 (ascii "ey dim ") d (λ z. omega arith)
 
   pub same-not-refused : (index d : ℕ) → sameLine index d ≡ refusedLine i n p → ⊥
-  unfolding dimLine
-  same-not-refused index d e = other-field (decimal index) 115 (ascii "ame dim " ++ (decimal d ++ ascii "\n")) i n p (dark-decimal index) (λ z. omega arith) (sym (opened index (ascii " same dim ") d (ascii "\n")) ∙ e)
+  same-not-refused index d = dim-not-refused index 115 (ascii "ame dim ") d (λ z. omega arith)
 
   pub differ-not-refused : (index d : ℕ) (w : List ℕ) (side : Side) → differLine index d w side ≡ refusedLine i n p → ⊥
   differ-not-refused index d w side e =
@@ -162,7 +166,7 @@ module _ (i n p : ℕ) where
 
   -- Nor does no line.
   pub none-not-refused : [] ≡ refusedLine i n p → ⊥
-  none-not-refused e = go (decimal i) (ascii "refused " ++ (decimal n ++ (ascii " " ++ (decimal p ++ ascii "\n")))) (e ∙ refused-fields i n p)
+  none-not-refused e = go (decimal i) (refusal n p) (e ∙ refused-fields i n p)
     where
       go : (xs : List ℕ) (rest : List ℕ) → [] ≡ xs ++ (32 ∷ rest) → ⊥
       go [] rest q = clash cc

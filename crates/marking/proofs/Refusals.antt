@@ -11,7 +11,7 @@ use Rattle.automata.proofs.Count.{mem-left}
 use Rattle.record.specs.Record.{checkOf, languageOf}
 use Rattle.record.specs.declared.Checked.{Checked}
 use Rattle.record.specs.declared.Checked.the-variants.{Good, Refused as Bad}
-use Rattle.record.proofs.Numbers.{Numbered, checkNumbers, check-numbers}
+use Rattle.record.proofs.Numbers.{CheckAmong, checkNumbers, check-numbers}
 use Rattle.operands.specs.Operands.{pairOf}
 use Rattle.operands.specs.declared.Pair.{Pair}
 use Rattle.operands.specs.declared.Pair.the-variants.{Both, Refused as NotBoth}
@@ -41,7 +41,7 @@ key-only : (key : List ℕ) → Only (keyRecordLine key)
 unfolding keyRecordLine
 key-only key = go (checkOf key) (check-numbers key)
   where
-    go : (c : Checked) → Numbered (λ k. Member k checkNumbers) c → Only (checkedLine c (keyLine (dimensionIn key)))
+    go : (c : Checked) → CheckAmong checkNumbers c → Only (checkedLine c (keyLine (dimensionIn key)))
     go Good n = λ i k p e. absurd (key-not-refused i k p (dimensionIn key) e)
     go (Bad number place) n = checked-only 0 number place (n number place refl)
 

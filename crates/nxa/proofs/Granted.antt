@@ -1,21 +1,19 @@
 -- Which numbers a reply can have: 0, which grants, and those of the service's refusals, among which is no 0. So a host reads the answer
 -- off the reply.
 use mathlib.Core.Path.{_≡_, refl, sym, ap, subst, _∙_}
-use mathlib.Core.Bool.{Bool, true, false, not}
+use mathlib.Core.Bool.{Bool, true, false}
 use mathlib.Core.Logic.{inl, inr}
 use mathlib.Core.List.{List, [], _∷_, _++_}
 use Prim.Native.Nat.{ℕ}
-use native.Mathlib.Omega.{arith}
 use borrow.Author.Tests.{ne-eqb}
 use lib.Dec.{ltb, eqb}
 use Rattle.automata.specs.Count.{Member}
-use Rattle.automata.specs.WordList.{allOf}
 use Rattle.record.specs.Record.{checkOf, WellFormed, recordAccepts}
 use Rattle.record.specs.Outcome.{Outcome, refused, wrote, answerOf, fit, rewriteOf}
 use Rattle.record.specs.declared.Checked.{Checked}
 use Rattle.record.specs.declared.Checked.the-variants.{Good, Refused}
 use Rattle.record.specs.declared.Written.{Written}
-use Rattle.record.proofs.Numbers.{not-member, Numbered, checkNumbers, check-numbers, Among, row-among, fit-among, checked-among}
+use Rattle.record.proofs.Numbers.{lacks, not-member, CheckAmong, checkNumbers, check-numbers, Among, row-among, fit-among, checked-among}
 use Rattle.testing.specs.Testing.{testedOf, testOf}
 use Rattle.testing.specs.declared.Tested.{Tested}
 use Rattle.minimal.specs.Minimal.{minimalBytes, minimalOutcome, minimisedAs}
@@ -28,7 +26,7 @@ use Rattle.replies.specs.Reply.{ofChecked, ofWritten, ofTested, ofMinimised, Nu
 -- ---- no refusal has number 0
 
 abbrev pub NoZero : List ℕ → Type 0
-NoZero ns = allOf (λ n. not (eqb n 0)) ns ≡ true
+NoZero ns = lacks ns 0 ≡ true
 
 pub not-zero : (ns : List ℕ) (k : ℕ) → NoZero ns → Member k ns → eqb k 0 ≡ false
 not-zero ns k e m = ne-eqb k 0 (λ z. not-member ns 0 e (subst (λ x. Member x ns) z m))
@@ -39,14 +37,14 @@ module _ (bs : List ℕ) (r : Reply) (told : r ≡ ofChecked (checkOf bs)) where
   pub check-number : NumberIn (0 ∷ checkNumbers) r
   check-number = subst (NumberIn (0 ∷ checkNumbers)) (sym told) (go (checkOf bs) (check-numbers bs))
     where
-      go : (c : Checked) → Numbered (λ k. Member k checkNumbers) c → NumberIn (0 ∷ checkNumbers) (ofChecked c)
+      go : (c : Checked) → CheckAmong checkNumbers c → NumberIn (0 ∷ checkNumbers) (ofChecked c)
       go Good n = inl refl
       go (Refused number place) n = inr (n number place refl)
 
   pub check-granted : r .number ≡ 0 → WellFormed bs
   check-granted e = go (checkOf bs) (check-numbers bs) (sym (ap (λ x. x .number) told) ∙ e)
     where
-      go : (c : Checked) → Numbered (λ k. Member k checkNumbers) c → ofChecked c .number ≡ 0 → c ≡ Good
+      go : (c : Checked) → CheckAmong checkNumbers c → ofChecked c .number ≡ 0 → c ≡ Good
       go Good n z = refl
       go (Refused number place) n z = absurd (not-member checkNumbers 0 refl (subst (λ k. Member k checkNumbers) z (n number place refl)))
 
@@ -107,7 +105,7 @@ pub tested-readable : (bs w : List ℕ) (t : Tested) → t ≡ testOf bs w → R
 unfolding testOf
 tested-readable bs w t e = subst (Readable ofTested testedIn checkNumbers) (sym e) (go (checkOf bs) (check-numbers bs) (recordAccepts bs w))
   where
-    go : (c : Checked) → Numbered (λ k. Member k checkNumbers) c → (b : Bool) → Readable ofTested testedIn checkNumbers (testedOf c b)
+    go : (c : Checked) → CheckAmong checkNumbers c → (b : Bool) → Readable ofTested testedIn checkNumbers (testedOf c b)
     go Good n true = (refl, inl refl)
     go Good n false = (refl, inl refl)
     go (Refused number place) n b = let m = n number place refl in (rw (not-zero checkNumbers number refl m), inr m)

@@ -1,7 +1,6 @@
 -- The numbers that the checks of two records refuse with: 1 to 8.
 use mathlib.Core.Path.{refl}
 use mathlib.Core.Bool.{Bool, true, false, cond}
-use mathlib.Core.Logic.{inl}
 use mathlib.Core.List.{List, [], _∷_, _++_}
 use Prim.Native.Nat.{ℕ}
 use lib.Dec.{eqb}
@@ -11,7 +10,7 @@ use Rattle.record.specs.Record.{lettersOf, checkOf}
 use Rattle.record.specs.Outcome.{Outcome, refused, wrote}
 use Rattle.record.specs.declared.Checked.{Checked}
 use Rattle.record.specs.declared.Checked.the-variants.{Good, Refused as Bad}
-use Rattle.record.proofs.Numbers.{Numbered, checkNumbers, check-numbers, Among}
+use Rattle.record.proofs.Numbers.{is-member, CheckAmong, checkNumbers, check-numbers, Among}
 use Rattle.operands.specs.Operands.{named, pairOf, afterPair}
 use Rattle.operands.specs.declared.Pair.{Pair}
 use Rattle.operands.specs.declared.Pair.the-variants.{Both, Refused}
@@ -23,7 +22,7 @@ abbrev pub PairAmong : List ℕ → Pair → Type 0
 PairAmong ns Both = Unit {0}
 PairAmong ns (Refused number which place) = Member number ns
 
-named-among : (c : Checked) (which : ℕ) (rest : Pair) → Numbered (λ k. Member k checkNumbers) c → PairAmong pairNumbers rest → PairAmong pairNumbers (named c which rest)
+named-among : (c : Checked) (which : ℕ) (rest : Pair) → CheckAmong checkNumbers c → PairAmong pairNumbers rest → PairAmong pairNumbers (named c which rest)
 named-among Good which rest n r = r
 named-among (Bad number place) which rest n r = mem-left number checkNumbers (8 ∷ []) (n number place refl)
 
@@ -35,7 +34,7 @@ pair-numbers bs cs =
   where
     go : (b : Bool) → PairAmong pairNumbers (cond b Both (Refused 8 2 6))
     go true = tt
-    go false = mem-right 8 checkNumbers (8 ∷ []) (inl refl)
+    go false = is-member pairNumbers 8 refl
 
 -- The checks of two records, then what follows.
 pub pair-among : (bs cs : List ℕ) (rest : Outcome) (ns : List ℕ) → Among ns rest → Among (pairNumbers ++ ns) (afterPair (pairOf bs cs) rest)

@@ -1,13 +1,13 @@
 -- The numbers of refusals: those of the record check are 1 to 7, and 1 comes only with fewer than 7 bytes; those of an outcome are the
 -- numbers of its rows.
 use mathlib.Core.Path.{_≡_, refl, sym, ap, subst, _∙_}
-use mathlib.Core.Bool.{Bool, true, false, not, _||_, cond, false≢true}
+use mathlib.Core.Bool.{Bool, true, false, not, _&&_, _||_, cond, true≢false, false≢true}
 use mathlib.Core.Logic.{inl, inr}
 use mathlib.Core.List.{List, [], _∷_, _++_}
 use Prim.Native.Nat.{ℕ, zero, suc, _+_, _*_, _^_, _<_}
 use native.Mathlib.Decide.{decLt}
 use native.Mathlib.Omega.{arith}
-use borrow.Author.Tests.{le-ltb}
+use borrow.Author.Tests.{le-ltb, eqb-true}
 use lib.Dec.{ltb, leb, eqb}
 use lib.ListN.{length, getD}
 use Rattle.automata.specs.Count.{Member}
@@ -22,17 +22,33 @@ use Rattle.record.specs.declared.Checked.{Checked}
 use Rattle.record.specs.declared.Checked.the-variants.{Good, Refused}
 use Rattle.record.proofs.Refusals.{short-met, front-met}
 
--- A number that a list has not got is not in it: which, for numbers, is computed.
-pub not-member : (ns : List ℕ) (k : ℕ) → allOf (λ n. not (eqb n k)) ns ≡ true → Member k ns → ⊥
+-- ---- whether a number is in a list is computed
+
+abbrev pub lacks : List ℕ → ℕ → Bool
+lacks ns k = allOf (λ n. not (eqb n k)) ns
+
+pub not-member : (ns : List ℕ) (k : ℕ) → lacks ns k ≡ true → Member k ns → ⊥
 not-member ns k e m =
     let z = all-of (λ n. not (eqb n k)) ns e k m in
     false≢true (sym (ap not (eqb-same k)) ∙ z)
+
+pub is-member : (ns : List ℕ) (k : ℕ) → lacks ns k ≡ false → Member k ns
+is-member [] k e = absurd (true≢false e)
+is-member (n ∷ ns) k e = go (eqb n k) refl e (is-member ns k)
+  where
+    go : (b : Bool) → eqb n k ≡ b → not b && lacks ns k ≡ false → (lacks ns k ≡ false → Member k ns) → Member k (n ∷ ns)
+    go true h q rest = inl (sym (eqb-true n k h))
+    go false h q rest = inr (rest q)
 
 -- ---- the record check
 
 -- The number of a refusal has a property.
 abbrev pub Numbered : (ℕ → Type 0) → Checked → Type 0
 Numbered P c = (k p : ℕ) → c ≡ Refused k p → P k
+
+-- It is one of a list.
+abbrev pub CheckAmong : List ℕ → Checked → Type 0
+CheckAmong ns = Numbered (λ k. Member k ns)
 
 -- The numbers after the first.
 abbrev laterNumbers : List ℕ
@@ -66,25 +82,25 @@ module _ (P : ℕ → Type 0) where
     unfolding frontOf
     front-numbered =
         row-numbered (ltb (length bs) header) 1 (length bs) _ one
-        (row-numbered (not (eqb (getD bs 0 0) 0x4E)) 2 0 _ (λ e. others 2 (inl refl))
-        (row-numbered (not (eqb (getD bs 1 0) 0x58)) 2 1 _ (λ e. others 2 (inl refl))
-        (row-numbered (not (eqb (getD bs 2 0) 0x41)) 2 2 _ (λ e. others 2 (inl refl))
-        (row-numbered (not (eqb (number 2 bs 3) version)) 3 3 _ (λ e. others 3 (inr (inl refl)))
-        (row-numbered (ltb maxStates (statesOf bs)) 4 5 _ (λ e. others 4 (inr (inr (inl refl))))
-        (row-numbered (eqb (lettersOf bs) 0 || ltb maxLetters (lettersOf bs)) 5 6 Good (λ e. others 5 (inr (inr (inr (inl refl))))) good-numbered))))))
+        (row-numbered (not (eqb (getD bs 0 0) 0x4E)) 2 0 _ (λ e. others 2 (is-member laterNumbers 2 refl))
+        (row-numbered (not (eqb (getD bs 1 0) 0x58)) 2 1 _ (λ e. others 2 (is-member laterNumbers 2 refl))
+        (row-numbered (not (eqb (getD bs 2 0) 0x41)) 2 2 _ (λ e. others 2 (is-member laterNumbers 2 refl))
+        (row-numbered (not (eqb (number 2 bs 3) version)) 3 3 _ (λ e. others 3 (is-member laterNumbers 3 refl))
+        (row-numbered (ltb maxStates (statesOf bs)) 4 5 _ (λ e. others 4 (is-member laterNumbers 4 refl))
+        (row-numbered (eqb (lettersOf bs) 0 || ltb maxLetters (lettersOf bs)) 5 6 Good (λ e. others 5 (is-member laterNumbers 5 refl)) good-numbered))))))
 
     check-by : Numbered P (checkOf bs)
     unfolding checkOf
     check-by =
         then-numbered (frontOf bs) _ front-numbered
-        (row-numbered (not (eqb (length bs) (needOf bs))) 6 (needOf bs) _ (λ e. others 6 (inr (inr (inr (inr (inl refl))))))
-        (stray-numbered (others 7 (inr (inr (inr (inr (inr (inl refl))))))) rowBytes (statesOf bs) bs (2 + lettersOf bs * statesOf bs) initialAt))
+        (row-numbered (not (eqb (length bs) (needOf bs))) 6 (needOf bs) _ (λ e. others 6 (is-member laterNumbers 6 refl))
+        (stray-numbered (others 7 (is-member laterNumbers 7 refl)) rowBytes (statesOf bs) bs (2 + lettersOf bs * statesOf bs) initialAt))
 
 module _ (bs : List ℕ) where
-  pub front-numbers : Numbered (λ k. Member k checkNumbers) (frontOf bs)
+  pub front-numbers : CheckAmong checkNumbers (frontOf bs)
   front-numbers = front-numbered (λ k. Member k checkNumbers) bs (λ e. inl refl) (λ k m. inr m)
 
-  pub check-numbers : Numbered (λ k. Member k checkNumbers) (checkOf bs)
+  pub check-numbers : CheckAmong checkNumbers (checkOf bs)
   check-numbers = check-by (λ k. Member k checkNumbers) bs (λ e. inl refl) (λ k m. inr m)
 
 -- Refusal 1 exactly with fewer than 7 bytes, its place their number.
@@ -113,7 +129,7 @@ Among ns (refused number which place) = Member number ns
 Among ns (wrote out) = Unit {0}
 
 -- A number that is not in the list never comes.
-pub not-among : (ns : List ℕ) (o : Outcome) → Among ns o → (number which place : ℕ) → allOf (λ n. not (eqb n number)) ns ≡ true → o ≡ refused number which place → ⊥
+pub not-among : (ns : List ℕ) (o : Outcome) → Among ns o → (number which place : ℕ) → lacks ns number ≡ true → o ≡ refused number which place → ⊥
 not-among ns o h number which place e q = not-member ns number e (subst (Among ns) q h)
 
 -- A row, then the rest.

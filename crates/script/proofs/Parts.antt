@@ -2,7 +2,6 @@
 -- numbers of refusals.
 use mathlib.Core.Path.{_≡_, refl, sym, _∙_}
 use mathlib.Core.Bool.{Bool, true, false, cond}
-use mathlib.Core.Logic.{inl, inr}
 use mathlib.Core.List.{List}
 use Prim.Native.Nat.{ℕ, _+_, _≤_, _<_}
 use native.Mathlib.Omega.{arith}
@@ -14,7 +13,7 @@ use Rattle.automata.specs.Count.{Member}
 use Rattle.record.specs.Record.{frontOf, needOf, rowsAt}
 use Rattle.record.specs.declared.Checked.{Checked}
 use Rattle.record.specs.declared.Checked.the-variants.{Good, Refused as Bad}
-use Rattle.record.proofs.Numbers.{Numbered, checkNumbers, front-numbers}
+use Rattle.record.proofs.Numbers.{is-member, CheckAmong, checkNumbers, front-numbers}
 use Rattle.script.specs.Script.{passed, partOf, partAt}
 use Rattle.script.specs.declared.Part.{Part}
 use Rattle.script.specs.declared.Part.the-variants.{Whole, Refused, End}
@@ -106,10 +105,10 @@ part-numbers s at = ended (leb (length s) at) _ (front (frontOf left) (front-num
     ended true p h = tt
     ended false p h = h
 
-    front : (c : Checked) → Numbered (λ k. Member k checkNumbers) c → (p : Part) → PartAmong checkNumbers p → PartAmong checkNumbers (passed c p)
+    front : (c : Checked) → CheckAmong checkNumbers c → (p : Part) → PartAmong checkNumbers p → PartAmong checkNumbers (passed c p)
     front Good n p h = h
     front (Bad number place) n p h = n number place refl
 
     short : (b : Bool) (place start next : ℕ) → PartAmong checkNumbers (cond b (Refused 6 place) (Whole start next))
-    short true place start next = inr (inr (inr (inr (inr (inl refl)))))
+    short true place start next = is-member checkNumbers 6 refl
     short false place start next = tt

@@ -1,8 +1,8 @@
 -- `mark`: the line at the place of the record; what it tells, and which refusals, follows from the answer and the buffer.
-use mathlib.Core.Path.{sym, ap, subst, _∙_}
+use mathlib.Core.Path.{ap, subst, _∙_}
 use Prim.Native.Nat.{_≤_}
 use denote.Ref.{now}
-use lib.ListN.{length, take}
+use lib.ListN.{length}
 use Rattle.record.specs.Outcome.{answerOf, bufferOf, fit}
 use Rattle.lines.specs.Lines.{longest}
 use Rattle.marking.specs.Marking.{lineAt, markLine, markOutcome}
