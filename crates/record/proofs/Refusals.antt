@@ -2,7 +2,7 @@
 use mathlib.Core.Path.{_≡_, refl, sym, _∙_}
 use mathlib.Core.List.{List}
 use mathlib.Core.Bool.{Bool, true, false, not, _||_}
-use Prim.Native.Nat.{ℕ, zero, suc, _+_, _-_, _*_, _≤_, _<_, _^_}
+use Prim.Native.Nat.{ℕ, zero, suc, _+_, _-_, _*_, _/_, _≤_, _<_, _^_}
 use native.Mathlib.Nat.{add-zero, mul-zero, mul-suc, mul-le-mul}
 use native.Mathlib.Omega.{arith}
 use borrow.Author.Tests.{lt-ltb, le-ltb, le-leb, lt-leb, eq-eqb, ne-eqb, ltb-false, leb-false, eqb-true, eqb-false, not-false}
@@ -123,6 +123,13 @@ good-front bs e =
     }
 
 -- ---- row 7, a field at a time
+
+-- How many fields stand before offset p.
+abbrev pub passed : ℕ → ℕ
+passed p = (p - initialAt) / rowBytes
+
+pub passed-next : (p : ℕ) → initialAt ≤ p → passed (p + rowBytes) ≡ passed p + 1
+passed-next p h = omega arith
 
 -- i of k fields have passed, and the next is at offset p.
 module _ (w n : ℕ) (bs : List ℕ) {i k : ℕ} (p : ℕ) where

@@ -133,11 +133,12 @@ fn all_fields(bytes: &[u8], k: usize) -> Row
     requires { ⌜ initialAt + rowBytes * k ≤ length (now bytes) ⌝ }
     ensures { λ r. ⌜ ((i : ℕ) → i < k → number rowBytes (now (bytes .entry)) (initialAt + rowBytes * i) ≤ mask r) ⌝ }
 {
+    let end = INITIAL_AT + ROW_BYTES * k;
     let mut y = rows::none();
-    let mut i = 0;
-    while i < k {
-        y = rows::or(y, field_at(bytes, INITIAL_AT + ROW_BYTES * i));
-        i += 1;
+    let mut p = INITIAL_AT;
+    while p < end {
+        y = rows::or(y, field_at(bytes, p));
+        p += ROW_BYTES;
     }
     y
 }
@@ -147,13 +148,13 @@ fn find_stray(bytes: &[u8], n: usize, k: usize) -> Checked
     requires { ⌜ (n ≤ maxStates) × (initialAt + rowBytes * k ≤ length (now bytes)) ⌝ }
     ensures { λ r. ⌜ r ≡ strayFrom rowBytes n (now (bytes .entry)) k initialAt ⌝ }
 {
-    let mut i = 0;
-    while i < k {
-        let p = INITIAL_AT + ROW_BYTES * i;
-        if !rows::within(field_at(bytes, p), n) {
-            return refuse(7, p);
+    let end = INITIAL_AT + ROW_BYTES * k;
+    let mut place = INITIAL_AT;
+    while place < end {
+        if !rows::within(field_at(bytes, place), n) {
+            return refuse(7, place);
         }
-        i += 1;
+        place += ROW_BYTES;
     }
     Checked::Good
 }
