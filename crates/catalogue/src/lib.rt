@@ -1,4 +1,5 @@
 // The catalogue of minimal records by number.
+#![tactic(auto)]
 ghost use Rattle.std.specs.Prelude.{◌≡◌, ◌<◌, ◌≤◌, length};
 ghost use Rattle.rows.specs.Table.{size as tableSize};
 ghost use Rattle.record.specs.Record.{states_of, letters_of};

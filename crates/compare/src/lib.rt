@@ -1,4 +1,5 @@
 // The comparison of two records: from bytes to the first word that just one accepts.
+#![tactic(auto)]
 ghost use Rattle.std.specs.Prelude.{◌≡◌, length};
 ghost use Rattle.record.specs.Outcome.{buffer_in};
 ghost use Rattle.operands.specs.Meant.{as_meant};
@@ -9,14 +10,14 @@ use operands::{BLANK, Pair};
 use verdict::Verdict;
 
 // Which of two records accepts a word.
-#[derive(Drop)]
+#[derive(Clone, Copy)]
 pub enum Side {
     First,
     Second,
 }
 
 // What a comparison answers.
-#[derive(Drop)]
+#[derive(Clone, Copy)]
 pub enum Compared {
     Same,
     Differs {

@@ -1,5 +1,6 @@
 // Elimination by Gauss and Jordan over GF(2), indexed by pivot, in a lent basis: block 0 has the basis row of each pivot, block 1 the rows
 // found. Where the coefficients are kept, block 2 has for each pivot the rows found that make its basis row.
+#![tactic(auto)]
 ghost use Rattle.std.specs.Prelude.{◌≡◌, Bool, true, ℕ, ◌+◌, ◌^◌, ◌≤◌, ◌<◌};
 ghost use Rattle.std.specs.Int.Bits.{bit_xor, bit_or};
 ghost use Rattle.automata.specs.Mask.{bit_of};
@@ -10,7 +11,7 @@ ghost use Rattle.elimination.specs.Place.{Folded, Unused, Added, BasisIn, Covere
 use rows::Row;
 
 // How many rows are found, their pivots, and a mask of every bit that one of them has.
-#[derive(Drop)]
+#[derive(Clone, Copy)]
 pub struct Size {
     pub count: usize,
     pub pivots: Row,
@@ -99,7 +100,7 @@ pub fn insert(b: &mut [u64], stride: usize, n: usize, s: Size, y: Row) -> Size
 }
 
 // The rows found that make a row, and the rows found once it is placed.
-#[derive(Drop)]
+#[derive(Clone, Copy)]
 pub struct Spot {
     pub row: Row,
     pub size: Size,

@@ -1,4 +1,5 @@
 // The search for the first accepted row of two records side by side: what it has come to, where it starts, and its one step.
+#![tactic(auto)]
 ghost use Rattle.std.specs.Prelude.{◌≡◌, ◌+◌, ◌^◌, ◌≤◌, ◌<◌};
 ghost use Rattle.rows.specs.Row.{width, mask};
 ghost use Rattle.rows.specs.Product.{product};
@@ -12,7 +13,7 @@ use trail::Trail;
 
 // What the search for an accepted row has come to: the rows found so far, none of them accepted, or the first accepted row, by its number,
 // and the row itself.
-#[derive(Drop)]
+#[derive(Clone, Copy)]
 pub enum Hunt {
     Going(Size),
     Found { number: usize, row: Row },

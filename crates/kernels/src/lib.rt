@@ -1,4 +1,5 @@
 // A row times several matrices of a table in one pass over its bits: two, four, or those of all letters into a line.
+#![tactic(auto)]
 ghost use Rattle.std.specs.Prelude.{◌≡◌, ℕ, ◌+◌, ◌^◌, ◌≤◌, ◌<◌, length, get_or, set};
 ghost use Rattle.rows.specs.Row.{mask};
 ghost use Rattle.rows.specs.Table.{blocks, at};
@@ -8,7 +9,7 @@ ghost use Rattle.kernels.specs.Products.{Products};
 use rows::{Row, Table};
 
 // Two rows.
-#[derive(Drop)]
+#[derive(Clone, Copy)]
 pub struct Two {
     pub first: Row,
     pub second: Row,
@@ -37,7 +38,7 @@ pub fn times_two(t: &Table, l: usize, g: usize, x: Row) -> Two
 }
 
 // Four rows.
-#[derive(Drop)]
+#[derive(Clone, Copy)]
 pub struct Four {
     pub first: Row,
     pub second: Row,

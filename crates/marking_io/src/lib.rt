@@ -4,6 +4,7 @@
 // calls: that a read call puts the input's next bytes into what it is lent, and that a write call takes as many bytes as it says. That the
 // counts of the calls are added up, and that a failure is told, is read off `read_script`, `print`, `mark_into` and `mark_from`. What was read
 // is handed on as `read_script` gave it, and what is printed is the text of that.
+#![tactic(auto)]
 ghost use Rattle.std.specs.Prelude.{◌≡◌, ◌++◌, ◌+◌, ◌≤◌, length, take, drop};
 ghost use Rattle.walk.specs.Walk.{place_of};
 ghost use Rattle.lines.specs.Lines.{longest, Begins};
@@ -24,7 +25,7 @@ const TEXT: usize = 699360;
 const TRIES: usize = 1000000000;
 
 // What one read or write call did.
-#[derive(Drop)]
+#[derive(Clone, Copy)]
 enum Call {
     // It moved so many bytes.
     Moved { count: usize },
@@ -33,7 +34,7 @@ enum Call {
 }
 
 // What was read.
-#[derive(Drop)]
+#[derive(Clone, Copy)]
 enum Input {
     // So many bytes: all up to the input's end, or as many as there was room for.
     Got { length: usize },
@@ -42,7 +43,7 @@ enum Input {
 }
 
 // How printing ends.
-#[derive(Drop)]
+#[derive(Clone, Copy)]
 enum Printed {
     // With so many bytes handed over.
     All { length: usize },

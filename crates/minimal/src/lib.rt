@@ -1,4 +1,5 @@
 // The minimal record of a record: from bytes to bytes.
+#![tactic(auto)]
 ghost use Rattle.std.specs.Prelude.{◌≡◌, length};
 ghost use Rattle.rows.specs.Table.{size};
 ghost use Rattle.record.specs.Record.{WellFormed};
@@ -9,7 +10,7 @@ use record::{Checked, Written};
 use rows::{Machine, Table};
 
 // What the minimal service answers: the bytes written and the dimension, or the refusal.
-#[derive(Drop)]
+#[derive(Clone, Copy)]
 pub enum Minimised {
     Done {
         length: usize,

@@ -1,4 +1,5 @@
 // The two records that a service is called with: what the second stands for, and the checks of both.
+#![tactic(auto)]
 ghost use Rattle.std.specs.Prelude.{◌≡◌};
 ghost use Rattle.record.specs.Record.{letters_of};
 ghost use Rattle.operands.specs.Meant.{blank_of};
@@ -30,7 +31,7 @@ pub fn blank(first: &[u8], out: &mut [u8; BLANK])
 }
 
 // What the checks of two records find: both pass, over the same letters, or the refusal.
-#[derive(Drop)]
+#[derive(Clone, Copy)]
 pub enum Pair {
     Both,
     Refused {

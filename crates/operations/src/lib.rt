@@ -1,4 +1,5 @@
 // Sum, product, complement and mirror: from records to the minimal record of the result.
+#![tactic(auto)]
 ghost use Rattle.std.specs.Prelude.{◌≡◌, ◌+◌, ◌≤◌, ◌<◌, length};
 ghost use Rattle.automata.specs.Language.{symmetric_difference, complement, reversal};
 ghost use Rattle.rows.specs.Row.{width, mask};
@@ -17,14 +18,14 @@ use record::{Checked, Written};
 use rows::{Machine, Row, Table};
 
 // The operations on two records that have an automaton with the states of both.
-#[derive(Drop)]
+#[derive(Clone, Copy)]
 pub enum Binary {
     Sum,
     Product,
 }
 
 // The operations on one record.
-#[derive(Drop)]
+#[derive(Clone, Copy)]
 pub enum Unary {
     Complement,
     Mirror,

@@ -1,4 +1,5 @@
 // Products of a row with the matrices of two well-formed records side by side, taken from the records' bytes.
+#![tactic(auto)]
 ghost use Rattle.std.specs.Prelude.{◌≡◌, true, ◌+◌, ◌*◌, ◌/◌, ◌^◌, ◌<◌, length};
 ghost use Rattle.std.specs.Int.Bits.{bit_xor};
 ghost use Rattle.rows.specs.Row.{width, mask};
@@ -13,7 +14,7 @@ use products::Three;
 use rows::Row;
 
 // A row in two halves: its bits on the states of the first record, and on those of the second.
-#[derive(Drop)]
+#[derive(Clone, Copy)]
 struct Halves {
     low: Row,
     high: Row,

@@ -1,4 +1,5 @@
 // Products of a row with the matrices of a well-formed record, taken from the record's bytes.
+#![tactic(auto)]
 ghost use Rattle.std.specs.Prelude.{◌≡◌, true, ◌+◌, ◌^◌, ◌≤◌, ◌<◌, length};
 ghost use Rattle.rows.specs.Row.{mask};
 ghost use Rattle.rows.specs.Table.{blocks};
@@ -56,7 +57,7 @@ pub fn times_single(bytes: &[u8], n: usize, l: usize, x: Row) -> Row
 }
 
 // Three rows.
-#[derive(Drop)]
+#[derive(Clone, Copy)]
 pub struct Three {
     pub first: Row,
     pub second: Row,

@@ -1,4 +1,5 @@
 // The record: its check, refusals 1 to 7.
+#![tactic(auto)]
 ghost use Rattle.std.specs.Prelude.{◌≡◌, ℕ, ◌+◌, ◌*◌, ◌%◌, ◌≤◌, ◌<◌, ◌^◌, length};
 ghost use Rattle.rows.specs.Row.{mask};
 ghost use Rattle.record.specs.Bytes.{number};
@@ -25,14 +26,14 @@ pub const FINAL_AT: usize = HEADER + ROW_BYTES;
 pub const ROWS_AT: usize = HEADER + 2 * ROW_BYTES;
 
 // What the record check finds: a well-formed record, or the refusal's number and place.
-#[derive(Drop)]
+#[derive(Clone, Copy)]
 pub enum Checked {
     Good,
     Refused { number: usize, place: usize },
 }
 
 // What a service that writes answers: the number of bytes written, or the refusal.
-#[derive(Drop)]
+#[derive(Clone, Copy)]
 pub enum Written {
     Done {
         length: usize,

@@ -1,4 +1,5 @@
 // The reply that the C host gets: one struct for every service, and how each answer becomes one.
+#![tactic(auto)]
 ghost use Rattle.std.specs.Prelude.{◌≡◌};
 ghost use Rattle.replies.specs.Reply.{reply, refusal, of_checked, of_written, of_tested, of_minimised, side_number, of_compared};
 
@@ -9,7 +10,7 @@ use testing::Tested;
 
 // A reply: number 0 grants, any other is the refusal's. What a service has no use for is 0.
 #[repr(C)]
-#[derive(Drop)]
+#[derive(Clone, Copy)]
 pub struct Reply {
     pub number: usize,
     pub record: usize,

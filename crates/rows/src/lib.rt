@@ -1,5 +1,6 @@
 // Rows over GF(2) as unsigned masks: bit j, worth 2^j, stands for state j. How wide a row is stands behind the names Row and
 // Table: the crates above use these functions and those of `kernels` alone, and their contracts name no width but `width`.
+#![tactic(auto)]
 ghost use Rattle.std.specs.Prelude.{◌≡◌, Bool, true, false, ◌&&◌, cond, ℕ, ◌+◌, ◌-◌, ◌*◌, ◌/◌, ◌^◌, ◌≤◌, ◌<◌, eqb, ltb};
 ghost use Rattle.std.specs.Int.Bits.{bit_xor, bit_and, bit_or};
 ghost use Rattle.automata.specs.Xor.{xor_below};
@@ -9,7 +10,7 @@ ghost use Rattle.rows.specs.Table.{blocks, at, stored};
 ghost use Rattle.rows.specs.Product.{product};
 
 // A row of `width` bits.
-#[derive(Drop)]
+#[derive(Clone, Copy)]
 pub struct Row {
     pub bits: u64,
 }
@@ -18,7 +19,7 @@ pub struct Row {
 pub type Table = [u64; 512];
 
 // An automaton but for its matrices, which stand in a table: row i of block l is the row of letter l and state i.
-#[derive(Drop)]
+#[derive(Clone, Copy)]
 pub struct Machine {
     pub states: usize,
     pub letters: usize,

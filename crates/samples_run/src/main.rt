@@ -1,6 +1,7 @@
 // Runs the samples without a star, the sample of each row of the refusal table, blanks, products and stars (02: Note 2), and letters
 // outside the alphabet (02: Note 3) through the services: a line for each.
 // What must come out is in the file `stdout`, as the scope has it.
+#![tactic(auto)]
 mod ask;
 mod make;
 mod show;

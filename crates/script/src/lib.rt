@@ -1,11 +1,12 @@
 // The reader of a script: records end to end in a lent slice, given out one after another.
+#![tactic(auto)]
 ghost use Rattle.std.specs.Prelude.{◌≡◌};
 ghost use Rattle.script.specs.Script.{passed, part_at, after_part, Advances, is_last, part_of_index};
 
 use record::Checked;
 
 // What stands at a position of a script: a whole record and where the next one starts, a refusal 1 to 6, or the end.
-#[derive(Drop)]
+#[derive(Clone, Copy)]
 pub enum Part {
     Whole { start: usize, next: usize },
     Refused { number: usize, place: usize },

@@ -1,4 +1,5 @@
 // The search for the first accepted row of two well-formed records side by side, straight from their bytes.
+#![tactic(auto)]
 ghost use Rattle.std.specs.Prelude.{◌≡◌, true, false, List, ℕ, ◌+◌, ◌*◌, ◌/◌, ◌^◌, ◌≤◌, ◌<◌, length};
 ghost use Rattle.std.specs.Int.Bits.{bit_xor};
 ghost use Rattle.rows.specs.Row.{width, mask};
@@ -211,7 +212,7 @@ fn pass_rows(
 }
 
 // What a row has come to, and the row that is next.
-#[derive(Drop)]
+#[derive(Clone, Copy)]
 struct Turn {
     hunt: Hunt,
     next: usize,

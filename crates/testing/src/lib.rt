@@ -1,4 +1,5 @@
 // The test of a word against a record.
+#![tactic(auto)]
 ghost use Rattle.std.specs.Prelude.{◌≡◌, false, cond, ℕ, ◌^◌, ◌≤◌, ◌<◌, ltb};
 ghost use Rattle.rows.specs.Row.{mask};
 ghost use Rattle.rows.specs.Table.{blocks, at};
@@ -10,7 +11,7 @@ use record::Checked;
 use rows::{Machine, Row, Table};
 
 // What the test of a word answers.
-#[derive(Drop)]
+#[derive(Clone, Copy)]
 pub enum Tested {
     Accepted,
     Rejected,

@@ -3,7 +3,7 @@ use mathlib.Core.Path.{◌≡◌, refl}
 use mathlib.Core.List.{List, [], ◌∷◌, map}
 use Prim.Native.Nat.{ℕ, zero, suc, ◌<◌}
 use native.Mathlib.Omega.{arith}
-use lib.ListN.{length, get_or, length_map}
+use lib.ListN.{length, get_or, length-map}
 use Rattle.text.specs.Text.{ascii, digit, word_text}
 
 pub word_none : (w : List ℕ) → length w ≡ 0 → word_text w ≡ ascii "-"
@@ -15,7 +15,7 @@ word_none (l ∷ w) h = absurd (omega arith)
 pub word_length : (w : List ℕ) → (length w ≡ 0 → ⊥) → length (word_text w) ≡ length w
 unfolding word_text
 word_length [] h = absurd (h refl)
-word_length (l ∷ w) h = length_map (l ∷ w) digit
+word_length (l ∷ w) h = length-map (l ∷ w) digit
 
 digit_at : (w : List ℕ) (i : ℕ) → i < length w → get_or (map digit w) i 0 ≡ digit (get_or w i 0)
 digit_at [] i h = absurd (omega arith)

@@ -1,7 +1,7 @@
 -- A row inserted: basis rows taken off it, and what is left added.
 --   Remainder p e y x    x is what is left of y: they differ by a row of every span that has the basis rows
 use mathlib.Core.Path.{◌≡◌, refl, sym, ap, ap₂, ◌∙◌}
-use mathlib.Core.Bool.{Bool, true, false, true≢false, ◌||◌, or_false}
+use mathlib.Core.Bool.{Bool, true, false, true≢false, ◌||◌, or-false}
 use mathlib.Core.List.{List}
 use Prim.Native.Nat.{ℕ, ◌+◌, ◌^◌, ◌≤◌, ◌<◌}
 use native.Mathlib.Decide.{ℕ_discrete}
@@ -39,7 +39,7 @@ module _ (p : ℕ) (e : List ℕ) where
       where
         go : Dec (k ≡ q) → P k (get_or (set e q x) k 0)
         go (yes r) = rw (r, get_or-set_same e q x 0 l) own
-        go (no r) = rw (get_or-set_other e q k x 0 r) (old k (sym (bit_or_lem k p (2 ^ q) ∙ ap (λ c. bit_of p k || c) (bit_pow q k ∙ eqb_differ r) ∙ or_false (bit_of p k)) ∙ b))
+        go (no r) = rw (get_or-set_other e q k x 0 r) (old k (sym (bit_or_lem k p (2 ^ q) ∙ ap (λ c. bit_of p k || c) (bit_pow q k ∙ eqb_differ r) ∙ or-false (bit_of p k)) ∙ b))
 
     pub triangular_added : Triangular p e → Top q x → Triangular (bit_or p (2 ^ q)) (set e q x)
     triangular_added t own = rw (length-set e q x) (added (λ k v. (k < length e) × (2 ^ k ≤ v) × (v < 2 ^ (k + 1))) (l, own.0, own.1) t)

@@ -1,4 +1,5 @@
 // Two well-formed records over the same letters side by side, and what a comparison of them finds.
+#![tactic(auto)]
 ghost use Rattle.record.specs.Claims.{Operands};
 ghost use Rattle.hunt.specs.Both.{Paired};
 
@@ -25,7 +26,7 @@ pub fn paired(first: &[u8], second: &[u8]) -> Machine
 }
 
 // What a comparison finds: the same words, or the row whose word is the first that just one accepts, and whether the first does.
-#[derive(Drop)]
+#[derive(Clone, Copy)]
 pub enum Verdict {
     Same,
     Differs { row: usize, first: bool },

@@ -1,0 +1,31 @@
+-- `put` sets the number that stands for the row.
+use mathlib.Core.Path.{refl}
+use Prim.Native.Nat.{◌+◌, ◌*◌, ◌<◌}
+use native.Mathlib.Omega.{arith}
+use borrow.Author.Rules.{rules}
+use lib.ListN.{length}
+use Rattle.rows.specs.Row.{mask}
+use Rattle.basis.specs.Basis.{written}
+use Rattle.basis.proofs.BasisLaws.{inside}
+use Rattle.basis.proofs.put.Goals.{Start}
+use Rattle.basis.proofs.put.Goals as goal
+
+-- The row has its place.
+place : (s : Start) → s.args.l * s.args.stride + s.args.i < length s.args.b.now
+place s = let a = s.args in inside a.stride a.l a.i a.b.now s.requires.0 s.requires.1 s.requires.2
+
+pub overflow_mul-b : goal.overflow_mul-b
+overflow_mul-b c = record { fits = omega (arith, place c) }
+
+pub overflow_add-b : goal.overflow_add-b
+overflow_add-b c = record { fits = omega (arith, place c) }
+
+pub offset_bounds-b-l : goal.offset_bounds-b-l
+offset_bounds-b-l c = record { fits = omega (arith, place c) }
+
+pub bounds-b-l : goal.bounds-b-l
+bounds-b-l c = place c
+
+pub returns : goal.returns
+unfolding mask written
+returns c = refl

@@ -1,0 +1,19 @@
+-- `times_two`: for each of the two matrices, what the bits passed have given, xor what those to come will give, is the product.
+use mathlib.Core.Path.{◌≡◌}
+use Prim.Native.Nat.{◌+◌, ◌-◌, ◌*◌, ◌^◌, ◌≤◌, ◌<◌}
+use native.Mathlib.Omega.{arith}
+use borrow.Author.Rules.{rules}
+use lib.ListN.{length}
+use lib.Count.{count_trailing_zeros}
+use lib.Bits.{and_le_r}
+use Rattle.rows.specs.Row.{mask}
+use Rattle.rows.proofs.ProductLaws.{Left, left_start, left_step, left_end}
+use Rattle.basis.specs.Basis.{cell}
+use Rattle.basis.proofs.BasisLaws.{block_inside, lowest_inside}
+use Rattle.basis.proofs.times_two.Given as goal
+
+abbrev pub invariant-loop-s : goal.invariant-loop-s
+invariant-loop-s l = (l.s < 2 ^ 64) × (l.s ≤ l.initial.s) × Left (cell l.stride l.b l.l) l.initial.s l.s l.y × Left (cell l.stride l.b l.g) l.initial.s l.s l.w
+
+abbrev pub decreases-loop-s : goal.decreases-loop-s
+decreases-loop-s l = l.s

@@ -1,0 +1,42 @@
+-- `put_rows`: the bytes of the letters passed are stored.
+use mathlib.Core.Path.{◌≡◌, refl, ◌∙◌}
+use Prim.Native.Nat.{◌-◌, ◌≤◌}
+use native.Mathlib.Omega.{arith}
+use lib.Seq.{sets, length-sets}
+use Rattle.automata.specs.Fields.{rows_of}
+use Rattle.rows.specs.Table.{at}
+use Rattle.record.specs.Record.{row_bytes, rows_at}
+use Rattle.record.specs.Bytes.{all_bytes}
+use Rattle.record.proofs.Stores.{letter_stored}
+use Rattle.codec.proofs.put_rows.Goals as goal
+
+pub loop-l-init : goal.loop-l-init
+unfolding all_bytes
+loop-l-init c = (omega arith, refl)
+
+pub put_block-requires : goal.put_block-requires
+put_block-requires c =
+    let p = c.requires in
+    (p.0, p.1, c.loop-l-test.true, rw (c.loop-l.invariant.1, length-sets) p.2)
+
+pub overflow_add-l : goal.overflow_add-l
+overflow_add-l c = omega arith
+
+pub loop-l-smaller : goal.loop-l-smaller
+loop-l-smaller c = omega arith
+
+pub loop-l-preserved : goal.loop-l-preserved
+loop-l-preserved c =
+    let b = c in
+    let a = b.args in (
+      omega arith,
+      rw (c.put_block.ensures, b.loop-l.invariant.1) (letter_stored row_bytes a.m.states (at a.t.now) a.buf.now rows_at b.loop-l.l),
+    )
+
+pub shape_of-buf : goal.shape_of-buf
+shape_of-buf c = rw (c.loop-l.invariant.1, length-sets)
+
+pub returns : goal.returns
+returns c =
+    let e : c.loop-l.l ≡ c.args.m.letters = omega arith in
+    c.loop-l.invariant.1 ∙ rw e

@@ -1,0 +1,48 @@
+-- `write`: its four runs of stores are the record.
+use mathlib.Core.Path.{refl, sym, ap, ◌∙◌}
+use native.Mathlib.Nat.{lt_of_lt_of_le}
+use lib.Pow.{pow_mono}
+use lib.ListN.{length}
+use Rattle.rows.specs.Machine.{automaton_in}
+use Rattle.record.specs.Record.{encode}
+use Rattle.record.specs.declared.Written.TheVariants.{Done}
+use Rattle.record.proofs.Encode.{length_encode}
+use Rattle.record.proofs.Held.{written}
+use Rattle.record.proofs.Outcome.{fit_short, fit_done}
+use borrow.Author.Rules.{rules}
+use Rattle.codec.proofs.write.Goals as goal
+
+pub returns-then-buf-whole : goal.returns-then-buf-whole
+returns-then-buf-whole c =
+    let a = c.args in
+    let A = automaton_in a.t.now a.m in
+    let l = length_encode a.m.letters A ∙ sym c.length_of-whole.ensures in
+    let e = fit_short (length a.buf.now) (encode a.m.letters A) l c.if-buf-whole.true in
+    (rw e refl, rw e refl)
+
+pub put_field-requires : goal.put_field-requires
+put_field-requires c =
+    let v = c.requires.0 in
+    (search rules, lt_of_lt_of_le v.initial (pow_mono {j = 64} v.states))
+
+pub put_field-requires-2 : goal.put_field-requires-2
+put_field-requires-2 c =
+    let v = c.requires.0 in
+    (search rules, lt_of_lt_of_le v.finals (pow_mono {j = 64} v.states))
+
+pub returns : goal.returns
+returns c =
+    let rows = c in
+    let final = rows in
+    let initial = final in
+    let head = initial in
+    let whole = head in
+    let s = whole in
+    let room = head.if-buf-whole.false in
+    let A = automaton_in s.args.t.now s.args.m in
+    let out = encode s.args.m.letters A in
+    let l = length_encode s.args.m.letters A in
+    let l' = l ∙ sym whole.length_of-whole.ensures in
+    let e = fit_done (length s.args.buf.now) out l' room in
+    let w = written s.args.t.now s.args.m s.requires.0 s.args.buf.now (rw whole.length_of-whole.ensures at room) head.put_head.ensures initial.put_field.ensures final.put_field-2.ensures rows.put_rows.ensures in
+    (rw e (ap Done (sym l')), rw e (w ∙ rw l))

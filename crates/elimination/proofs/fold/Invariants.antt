@@ -1,0 +1,13 @@
+-- `fold`: the rows below j are done, those from j on are as they were.
+use mathlib.Core.Path.{◌≡◌}
+use Prim.Native.Nat.{◌-◌, ◌≤◌}
+use native.Mathlib.Omega.{arith}
+use Rattle.rows.specs.Row.{mask}
+use Rattle.elimination.proofs.FoldLaws.{Folding, fold_start, fold_turn}
+use Rattle.elimination.proofs.fold.Given as goal
+
+abbrev pub invariant-loop-j : goal.invariant-loop-j
+invariant-loop-j l = (l.j ≤ l.n) × Folding l.stride l.j l.l l.q (mask l.x) l.initial.b l.b
+
+abbrev pub decreases-loop-j : goal.decreases-loop-j
+decreases-loop-j l = l.n - l.j

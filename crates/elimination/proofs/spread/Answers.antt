@@ -1,0 +1,41 @@
+-- `spread`: the pivots stand below their span, and in the block; where the mask lacks the bit, so do the basis rows.
+use mathlib.Core.Path.{◌≡◌, sym, subst, ◌∙◌}
+use mathlib.Core.Bool.{true}
+use mathlib.Core.Logic.{⊎_elim}
+use Prim.Native.Nat.{ℕ, ◌<◌, ◌≤◌}
+use native.Mathlib.Omega.{arith}
+use Rattle.automata.specs.Mask.{bit_of}
+use Rattle.rows.specs.Row.{mask}
+use Rattle.rows.proofs.BitLaws.{bit_below}
+use Rattle.elimination.proofs.FoldLaws.{folded_pivots, folded_none}
+use borrow.Author.Rules.{rules}
+use Rattle.elimination.proofs.spread.Goals.{Joined-stride-k}
+use Rattle.elimination.proofs.spread.Goals as goal
+
+-- The rows to do are in the block, and those of the pivots are among them.
+among : (c : Joined-stride-k) → (c.if-stride-k.k ≤ c.args.stride) × ((j : ℕ) → j < c.args.n → bit_of (mask c.args.p) j ≡ true → j < c.if-stride-k.k)
+among c =
+    let s = c in
+    let u = c.span-k in
+    ⊎_elim
+    (λ w. (omega (arith, w.1), λ j h e. omega (arith, w.1, s.requires.1)))
+    (λ w. (omega (arith, w.1, w.0.left), λ j h e. subst (λ k. j < k) (sym w.1) (bit_below u.result u.ensures.1 j e)))
+    c.if-stride-k.branch
+
+pub fold-requires : goal.fold-requires
+fold-requires c =
+    let s = c in
+    (s.requires.0, (among (goal.at.fold-requires c).Joined-stride-k).0, s.requires.2, s.requires.3)
+
+pub returns-after-stride-k : goal.returns-after-stride-k
+returns-after-stride-k c =
+    let j = c in
+    let a = j.args in
+    let f = c.fold in
+    folded_pivots a.stride j.if-stride-k.k a.n (mask a.p) a.l a.q (mask a.x) a.b.now f.new.b (among (goal.at.returns-after-stride-k j).Joined-stride-k).1 f.ensures
+
+pub returns-else-has : goal.returns-else-has
+returns-else-has c =
+    let s = c in
+    let a = s.args in
+    folded_none a.stride a.n (mask a.p) (mask a.v) a.l a.q (mask a.x) a.b.now s.requires.4 (sym c.has.ensures ∙ c.if-has.false)

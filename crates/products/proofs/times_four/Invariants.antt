@@ -1,0 +1,15 @@
+-- `times_four`: for each of the four matrices, what the bits passed have given, xor what those to come will give, is the product.
+use Prim.Native.Nat.{◌+◌, ◌≤◌, ◌<◌}
+use native.Mathlib.Omega.{arith}
+use Rattle.rows.specs.Row.{mask}
+use Rattle.rows.proofs.ProductLaws.{Left, left_start, left_lowest, left_end}
+use Rattle.record.specs.Record.{states_of, row_at}
+use Rattle.record.proofs.Refusals.{good_check}
+use Rattle.rows.proofs.LoopLaws.{some_bit, no_bit, cleared_less, bit_state}
+use Rattle.products.proofs.times_four.Given as goal
+
+abbrev pub invariant-loop-z : goal.invariant-loop-z
+invariant-loop-z l = (mask l.z ≤ mask l.initial.z) × Left (row_at l.bytes l.l) (mask l.initial.z) (mask l.z) (mask l.y0) × Left (row_at l.bytes (l.l + 1)) (mask l.initial.z) (mask l.z) (mask l.y1) × Left (row_at l.bytes (l.l + 2)) (mask l.initial.z) (mask l.z) (mask l.y2) × Left (row_at l.bytes (l.l + 3)) (mask l.initial.z) (mask l.z) (mask l.y3)
+
+abbrev pub decreases-loop-z : goal.decreases-loop-z
+decreases-loop-z l = mask l.z

@@ -1,0 +1,15 @@
+-- `times_one`: what the bits passed have given, xor what those to come will give, is the product.
+use Prim.Native.Nat.{◌≤◌, ◌<◌}
+use native.Mathlib.Omega.{arith}
+use Rattle.rows.specs.Row.{mask}
+use Rattle.rows.proofs.ProductLaws.{Left, left_start, left_lowest, left_end}
+use Rattle.record.specs.Record.{states_of, row_at}
+use Rattle.record.proofs.Refusals.{good_check}
+use Rattle.rows.proofs.LoopLaws.{some_bit, no_bit, cleared_less, bit_state}
+use Rattle.products.proofs.times_one.Given as goal
+
+abbrev pub invariant-loop-z : goal.invariant-loop-z
+invariant-loop-z l = (mask l.z ≤ mask l.initial.z) × Left (row_at l.bytes l.l) (mask l.initial.z) (mask l.z) (mask l.y)
+
+abbrev pub decreases-loop-z : goal.decreases-loop-z
+decreases-loop-z l = mask l.z

@@ -1,0 +1,6 @@
+-- `refused`: by cases on what the check found.
+use borrow.Author.Rules.{rules}
+use Rattle.record.proofs.refused.Goals as goal
+
+pub returns-in-Refused : goal.returns-in-Refused
+returns-in-Refused c = rw c.in-Refused.is

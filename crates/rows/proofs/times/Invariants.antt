@@ -1,0 +1,18 @@
+-- `times`: what the bits passed have given, xor what those to come will give, is the product.
+use mathlib.Core.Path.{◌≡◌}
+use Prim.Native.Nat.{◌-◌, ◌^◌, ◌≤◌, ◌<◌}
+use native.Mathlib.Omega.{arith}
+use borrow.Author.Rules.{rules}
+use lib.Count.{trailing_le}
+use lib.Bits.{and_le_r}
+use Rattle.rows.specs.Row.{mask}
+use Rattle.rows.specs.Table.{at}
+use Rattle.rows.proofs.LowestBit.{lowest_set}
+use Rattle.rows.proofs.ProductLaws.{Left, left_start, left_step, left_end}
+use Rattle.rows.proofs.times.Given as goal
+
+abbrev pub invariant-loop-z : goal.invariant-loop-z
+invariant-loop-z l = (l.z < 2 ^ 64) × (l.z ≤ l.initial.z) × Left (at l.t l.l) l.initial.z l.z l.y
+
+abbrev pub decreases-loop-z : goal.decreases-loop-z
+decreases-loop-z l = l.z

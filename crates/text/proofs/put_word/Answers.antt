@@ -1,0 +1,86 @@
+-- `put_word`: the digits of the letters passed are stored.
+use mathlib.Core.Path.{◌≡◌, refl, ap, ◌∙◌}
+use Prim.Native.Nat.{◌-◌, ◌≤◌}
+use native.Mathlib.Omega.{arith}
+use lib.ListN.{length, take}
+use lib.Seq.{sets, length-sets, take_all}
+use Rattle.automata.proofs.Shortlex.{over_at}
+use Rattle.text.specs.Text.{word_text}
+use Rattle.text.proofs.Runs.{run_more}
+use Rattle.text.proofs.Words.{word_none, word_length, word_digit}
+use borrow.Author.Rules.{rules}
+use Rattle.text.proofs.put_word.Goals.{Else-word-eq0, Then-word-eq0}
+use Rattle.text.proofs.put_word.Goals as goal
+
+-- The empty word, and one digit for each letter of any other.
+none : (c : Then-word-eq0) → length (word_text c.args.word.now) ≡ 1
+none c = ap length (word_none c.args.word.now c.if-word-eq0.true)
+
+digits : (c : Else-word-eq0) → length (word_text c.args.word.now) ≡ length c.args.word.now
+digits c = word_length c.args.word.now c.if-word-eq0.false
+
+-- UNMATCHED slice-aggregate-put
+{-
+slice-aggregate-put : tie.Need-slice-aggregate-put invariant-loop decreases-loop
+slice-aggregate-put c = search rules
+-}
+
+pub put-requires : goal.put-requires
+put-requires c = let l = none (goal.at.put-requires c).Then-word-eq0 in omega arith
+
+pub shape_of-line-then-word-eq0 : goal.shape_of-line-then-word-eq0
+shape_of-line-then-word-eq0 c = c.put.auto.0
+
+pub returns-then-word-eq0 : goal.returns-then-word-eq0
+returns-then-word-eq0 c =
+    let p = c.put in
+    let s = c in
+    let w = word_none s.args.word.now s.if-word-eq0.true in
+    rw w p.ensures
+
+pub loop-i-init : goal.loop-i-init
+loop-i-init c = (omega arith, refl)
+
+pub bounds-word-i : goal.bounds-word-i
+bounds-word-i c = omega arith
+
+pub digit-requires : goal.digit-requires
+digit-requires c =
+    let l = c in
+    let s = l in
+    over_at 10 s.args.word.now s.requires.0 l.loop-i.i c.loop-i-test.true
+
+pub overflow_add-line : goal.overflow_add-line
+overflow_add-line c = let l = digits (goal.at.overflow_add-line c).Else-word-eq0 in omega arith
+
+pub bounds-line-at : goal.bounds-line-at
+bounds-line-at c =
+    let l = digits (goal.at.overflow_add-line c).Else-word-eq0 in
+    rw (c.loop-i.invariant.1, length-sets) (omega arith)
+
+pub overflow_add-i : goal.overflow_add-i
+overflow_add-i c = omega arith
+
+pub loop-i-smaller : goal.loop-i-smaller
+loop-i-smaller c = omega arith
+
+pub loop-i-preserved : goal.loop-i-preserved
+loop-i-preserved c =
+    let b = c in
+    let a = b.args in
+    let l = digits (goal.at.overflow_add-line b).Else-word-eq0 in
+    let w = word_digit a.word.now b.loop-i.i (omega arith) in
+    (omega arith, rw (b.loop-i.invariant.1, c.digit.ensures, ← w) (run_more a.line.now (word_text a.word.now) a.at b.loop-i.i (omega arith)))
+
+pub overflow_add-result : goal.overflow_add-result
+overflow_add-result c = let l = digits (goal.at.overflow_add-result c).Else-word-eq0 in omega arith
+
+pub shape_of-line : goal.shape_of-line
+shape_of-line c = rw (c.loop-i.invariant.1, length-sets)
+
+pub returns : goal.returns
+returns c =
+    let b = c in
+    let l = digits (goal.at.overflow_add-result b).Else-word-eq0 in
+    let w = word_text b.args.word.now in
+    (omega arith, b.loop-i.invariant.1 ∙ rw (take_all b.loop-i.i w (omega arith)))

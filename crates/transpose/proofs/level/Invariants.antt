@@ -1,0 +1,13 @@
+-- `level`: while 2 ^ w is below n, w is below the number of levels.
+use Prim.Native.Nat.{◌-◌, ◌≤◌, ◌<◌}
+use native.Mathlib.Nat.{lt_of_not-le}
+use native.Mathlib.Omega.{arith}
+use lib.Pow.{pow_mono}
+use Rattle.rows.specs.Row.{levels}
+use Rattle.transpose.proofs.level.Given as goal
+
+abbrev pub invariant-loop-w : goal.invariant-loop-w
+invariant-loop-w l = l.w ≤ levels
+
+abbrev pub decreases-loop-w : goal.decreases-loop-w
+decreases-loop-w l = levels - l.w

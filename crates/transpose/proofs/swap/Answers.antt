@@ -1,0 +1,99 @@
+-- `swap`: what the calls give is the exchange of the two rows, by SwapLaws, and no bit is lost on the way up.
+use mathlib.Core.Path.{◌≡◌, sym, ap, ap₂, subst, ◌∙◌}
+use Prim.Native.Nat.{ℕ, ◌+◌, ◌*◌, ◌/◌, ◌^◌, ◌<◌}
+use native.Mathlib.Nat.{add_comm}
+use native.Mathlib.Omega.{arith}
+use lib.Bits.{bit_and, bit_xor}
+use lib.Pow.{pow-lt}
+use Rattle.rows.specs.Row.{width, levels, mask}
+use Rattle.rows.specs.Table.{at, stored}
+use Rattle.transpose.specs.Exchange.{flip}
+use Rattle.transpose.proofs.FlipLaws.{flip_lt, flip_add}
+use Rattle.transpose.proofs.SwapLaws.{difference, difference_fits}
+use Rattle.transpose.proofs.StageLaws.{swap_stored}
+use borrow.Author.Rules.{rules}
+use Rattle.transpose.proofs.swap.Goals.{After-and-d, After-power-s}
+use Rattle.transpose.proofs.swap.Goals as goal
+
+-- The partner's number.
+there : (c : After-power-s) → c.args.r + c.power-s.result ≡ flip c.args.b c.args.r
+there c =
+    let a = c.args in
+    ap (λ s. a.r + s) c.power-s.ensures ∙ add_comm a.r (2 ^ a.b) ∙ sym (flip_add a.b a.r c.requires.4)
+
+near : (c : After-power-s) → (c.power-s.result < width) × (c.args.r + c.power-s.result < width)
+near c =
+    let s = c in (
+      subst (λ n. n < width) (sym c.power-s.ensures) (pow-lt {i = s.args.b} {j = levels} s.requires.1),
+      subst (λ n. n < width) (sym (there c)) (flip_lt levels s.args.b s.args.r s.requires.1 s.requires.3),
+    )
+
+-- What trades, and what it is moved up to.
+module _ (c : After-and-d) where
+  abbrev bit : ℕ
+  bit = c.args.b
+
+  abbrev first : ℕ
+  first = mask c.load-p.result
+
+  abbrev second : ℕ
+  second = mask c.load-q.result
+
+  abbrev step : ℕ
+  step = c.power-s.result
+
+  trades : mask c.and-d.result ≡ difference bit first second
+  trades =
+      let u = c in
+      c.and-d.ensures
+      ∙ ap₂ bit_and
+      (c.xor-e.ensures ∙ ap (λ v. bit_xor v second) (c.lowered-v.ensures ∙ ap (λ s. first / 2 ^ s) u.power-s.ensures))
+      u.requires.2
+
+  moves : mask c.and-d.result * 2 ^ step ≡ difference bit first second * 2 ^ (2 ^ bit)
+  moves = ap₂ (λ d s. d * 2 ^ s) trades c.power-s.ensures
+
+pub overflow_add-r : goal.overflow_add-r
+overflow_add-r c = omega (arith, near (goal.at.overflow_add-r c).After-power-s)
+
+pub load-q-requires : goal.load-q-requires
+load-q-requires c = (c.requires.0, (near (goal.at.overflow_add-r c).After-power-s).1)
+
+pub lowered-v-requires : goal.lowered-v-requires
+lowered-v-requires c = (near (goal.at.lowered-v-requires c).After-power-s).0
+
+pub moved-u-requires : goal.moved-u-requires
+moved-u-requires c =
+    let q = c in
+    let p = q in
+    let u = p in (
+      (near (goal.at.moved-u-requires u).After-power-s).0,
+      subst (λ n. n < 2 ^ width) (sym (moves c)) (difference_fits u.args.b (mask p.load-p.result) (mask q.load-q.result) u.requires.1),
+    )
+
+pub overflow_add-r-2 : goal.overflow_add-r-2
+overflow_add-r-2 c = omega (arith, near (goal.at.overflow_add-r-2 c).After-power-s)
+
+pub store-requires-2 : goal.store-requires-2
+store-requires-2 c =
+    let u = c in
+    (u.requires.0, (near (goal.at.overflow_add-r-2 u).After-power-s).1)
+
+pub returns : goal.returns
+returns c =
+    let s₁ = c in
+    let y = s₁ in
+    let x = y in
+    let m = x in
+    let d = m in
+    let q = d in
+    let p = q in
+    let u = p in
+    let s = u in
+    let a = s.args in
+    swap_stored a.l a.b a.r a.t.now s.requires.1 s.requires.0 s.requires.3 s.requires.4 s.requires.5
+    (mask p.load-p.result) (mask q.load-q.result) (mask x.xor-x.result) (mask y.xor-y.result) s₁.store.new.t c.store-2.new.t
+    p.load-p.ensures (q.load-q.ensures ∙ ap (at a.t.now a.l) (there (goal.at.returns u).After-power-s))
+    (x.xor-x.ensures ∙ ap (bit_xor (mask p.load-p.result)) (m.moved-u.ensures ∙ moves (goal.at.returns d).After-and-d))
+    (y.xor-y.ensures ∙ ap (bit_xor (mask q.load-q.result)) (trades (goal.at.returns d).After-and-d))
+    s₁.store.ensures (c.store-2.ensures ∙ ap (λ i. stored s₁.store.new.t a.l i (mask y.xor-y.result)) (there (goal.at.returns u).After-power-s))

@@ -1,0 +1,19 @@
+-- `transposed`: the copy is transposed.
+use Rattle.transpose.proofs.CopyLaws.{copied_low, copied_transposed}
+use Rattle.transpose.proofs.transposed.Goals as goal
+
+pub copy-requires : goal.copy-requires
+copy-requires c = (c.requires.0, c.requires.1, c.requires.3)
+
+pub transpose-requires : goal.transpose-requires
+transpose-requires c =
+    let s = c in
+    let a = s.args in
+    let e = c.copy in
+    (s.requires.0, s.requires.1, copied_low a.a a.n a.t.now e.new.c e.ensures s.requires.2, e.ensures.size)
+
+pub returns : goal.returns
+returns c =
+    let k = c in
+    let a = k.args in
+    copied_transposed a.a a.n a.t.now k.copy.new.c c.transpose.new.t k.copy.ensures c.transpose.ensures

@@ -1,0 +1,93 @@
+-- `insert`: x is what is left of y, and the basis is as it was. Taking off the row of its highest bit makes x less.
+use mathlib.Core.Path.{◌≡◌, refl, sym, ◌∙◌}
+use mathlib.Core.Bool.{true}
+use Prim.Native.Nat.{◌≤◌, ◌<◌}
+use native.Mathlib.Nat.{le_refl, le_trans, le_of_lt, lt_of_lt_of_le, lt_of_le_of_lt}
+use native.Mathlib.Omega.{arith}
+use borrow.Author.Rules.{rules}
+use borrow.Author.Tests.{eqb-true, eqb-false, not-true, not-false}
+use lib.ListN.{length, get_or}
+use Rattle.automata.specs.Mask.{bit_of}
+use Rattle.rows.specs.Row.{mask}
+use Rattle.triangular.proofs.TopBit.{top_below, top_xor}
+use Rattle.triangular.proofs.StepLaws.{Remainder, remainder_start, remainder_step, inserted_new, inserted_old}
+use Rattle.triangular.proofs.insert.Goals.{After-highest-q, Else-not-has}
+use Rattle.triangular.proofs.insert.Goals as goal
+
+pub loop-x-init : goal.loop-x-init
+loop-x-init c = let a = c.args in (refl, le_refl _, remainder_start (mask a.p) a.e.now (mask a.y))
+
+pub is_none-requires : goal.is_none-requires
+is_none-requires c = tt
+
+pub highest-q-requires : goal.highest-q-requires
+highest-q-requires c =
+    let some : mask c.loop-x.x ≡ 0 → ⊥ = eqb-false _ 0 (sym c.is_none.ensures ∙ c.loop-x-test.true) in
+    omega arith
+
+pub has-requires : goal.has-requires
+has-requires c = c.highest-q.ensures.0
+
+-- The highest bit of x has its place.
+place : (c : After-highest-q) → c.highest-q.result < length c.loop-x.e
+place c =
+    let v = c.loop-x in
+    let s = c in
+    rw v.invariant.0 (top_below (length s.args.e.now) c.highest-q.result (mask v.x) (c.highest-q.ensures.1, c.highest-q.ensures.2) (lt_of_le_of_lt v.invariant.1 s.requires.1))
+
+pub put-requires : goal.put-requires
+put-requires c = place (goal.at.put-requires c).After-highest-q
+
+pub unit-requires : goal.unit-requires
+unit-requires c = c.highest-q.ensures.0
+
+pub or-requires : goal.or-requires
+or-requires c = tt
+
+pub returns-then-not-has : goal.returns-then-not-has
+returns-then-not-has c =
+    let t = c in
+    let h = t in
+    let v = h.loop-x in
+    let s = h in
+    let q = h.highest-q.result in
+    rw (c.or.ensures, c.unit.ensures, c.put.ensures, v.invariant.0)
+    (inserted_new (mask s.args.p) s.args.e.now (mask v.x) q (rw v.invariant.0 at (place (goal.at.returns-then-not-has h).After-highest-q)) (mask s.args.y) s.requires.0 (h.highest-q.ensures.1, h.highest-q.ensures.2) (sym t.has.ensures ∙ t.if-not-has.true) v.invariant.2)
+
+pivot : (c : Else-not-has) → bit_of (mask c.args.p) c.highest-q.result ≡ true
+pivot c = sym c.has.ensures ∙ c.if-not-has.false
+
+pub get-requires : goal.get-requires
+get-requires c = place (goal.at.get-requires c).After-highest-q
+
+pub xor-x-requires : goal.xor-x-requires
+xor-x-requires c = tt
+
+pub loop-x-smaller : goal.loop-x-smaller
+loop-x-smaller c =
+    let b = c in
+    let h = b in
+    let v = h.loop-x in
+    let s = h in
+    let q = h.highest-q.result in
+    let r = s.requires.0 q (pivot (goal.at.loop-x-smaller b).Else-not-has) in
+    rw (c.xor-x.ensures, c.get.ensures, v.invariant.0)
+    (lt_of_lt_of_le (top_xor q (mask v.x) (get_or s.args.e.now q 0) (h.highest-q.ensures.1, h.highest-q.ensures.2) (r.1, r.2)) h.highest-q.ensures.1)
+
+pub loop-x-preserved : goal.loop-x-preserved
+loop-x-preserved c =
+    let b = c in
+    let h = b in
+    let v = h.loop-x in
+    let s = h in (
+      v.invariant.0,
+      le_trans (le_of_lt (loop-x-smaller c)) v.invariant.1,
+      rw (c.xor-x.ensures, c.get.ensures, v.invariant.0) (remainder_step (mask s.args.p) s.args.e.now (mask s.args.y) (mask v.x) h.highest-q.result (pivot (goal.at.loop-x-smaller b).Else-not-has) v.invariant.2),
+    )
+
+pub returns : goal.returns
+returns c =
+    let v = c.loop-x in
+    let s = c in
+    let z = eqb-true (mask v.x) 0 (sym c.is_none.ensures ∙ c.loop-x-test.false) in
+    rw v.invariant.0 (inserted_old (mask s.args.p) s.args.e.now (mask s.args.y) (mask v.x) z s.requires.0 v.invariant.2)
