@@ -11,13 +11,13 @@ use Rattle.automata.specs.Mask.{bit_of}
 use Rattle.rows.proofs.BitLaws.{bit_below}
 
 -- Where the test for no bit says no, and where it says yes.
-pub some_bit : {b : Bool} (z : ℕ) → b ≡ eqb z 0 → not b ≡ true → 0 < z
-some_bit {b = true} z e t = absurd (true≢false (sym t))
+pub some_bit : {b : Bool} (z : ℕ) → b ≡ eqb z 0 → b ≡ false → 0 < z
+some_bit {b = true} z e t = absurd (true≢false t)
 some_bit {b = false} z e t = let d : z ≡ 0 → ⊥ = eqb-false z 0 (sym e) in omega arith
 
-pub no_bit : {b : Bool} (z : ℕ) → b ≡ eqb z 0 → not b ≡ false → z ≡ 0
+pub no_bit : {b : Bool} (z : ℕ) → b ≡ eqb z 0 → b ≡ true → z ≡ 0
 no_bit {b = true} z e t = eqb-true z 0 (sym e)
-no_bit {b = false} z e t = absurd (true≢false t)
+no_bit {b = false} z e t = absurd (true≢false (sym t))
 
 -- The bits left are fewer.
 pub cleared_less : (z : ℕ) {z' : ℕ} → 0 < z → z' ≡ bit_and z (z - 1) → z' < z

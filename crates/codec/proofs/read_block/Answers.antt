@@ -24,7 +24,7 @@ inside : (c : In-loop-i)
     ≤ length c.args.bytes.now
 inside c =
     let s = c in
-    row_inside s.args.bytes.now (passed s) c.size-n.ensures.0 s.args.l c.loop-i.i s.requires.1 c.loop-i-test.true
+    row_inside s.args.bytes.now (good_check _ s.requires.0) c.size-n.ensures.0 s.args.l c.loop-i.i s.requires.1 c.loop-i-test.true
 
 pub bounds-bytes-5 : goal.bounds-bytes-5
 bounds-bytes-5 c = let f = (passed (goal.at.bounds-bytes-5 c).Start).front in omega arith

@@ -18,7 +18,7 @@ pub returns-in_default : goal.returns-in_default
 returns-in_default c =
     let a = c.args in
     let e = rewrite_refused a.bytes.now (length a.buf.now) (sym c.check-c.ensures ∙ c.in_default.is) in
-    (rw e (c.refused.ensures ∙ rw c.in_default.is), rw e)
+    record { answer = rw e (c.refused.ensures ∙ rw c.in_default.is); buffer = rw e }
 
 pub read-m-requires : goal.read-m-requires
 read-m-requires c = (passed (goal.at.read-m-requires c).In-Good, refl)
@@ -39,4 +39,4 @@ returns c =
     let e = rewrite_fit bs (length a.buf.now) good in
     let same = encode_held bs r.read-m.new.t r.read-m.result (λ i. omega (arith, k.shared_slice_known-1.given i)) good r.read-m.ensures in
     let w = c.write.ensures in
-    (rw e (w.0 ∙ rw same), rw e (w.1 ∙ rw same))
+    record { answer = rw e (w.answer ∙ rw same); buffer = rw e (w.buffer ∙ rw same) }

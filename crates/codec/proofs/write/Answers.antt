@@ -18,7 +18,7 @@ returns-then-buf-whole c =
     let A = automaton_in a.t.now a.m in
     let l = length_encode a.m.letters A ∙ sym c.length_of-whole.ensures in
     let e = fit_short (length a.buf.now) (encode a.m.letters A) l c.if-buf-whole.true in
-    (rw e refl, rw e refl)
+    record { answer = rw e refl; buffer = rw e refl }
 
 pub put_field-requires : goal.put_field-requires
 put_field-requires c =
@@ -45,4 +45,4 @@ returns c =
     let l' = l ∙ sym whole.length_of-whole.ensures in
     let e = fit_done (length s.args.buf.now) out l' room in
     let w = written s.args.t.now s.args.m s.requires.0 s.args.buf.now (rw whole.length_of-whole.ensures at room) head.put_head.ensures initial.put_field.ensures final.put_field-2.ensures rows.put_rows.ensures in
-    (rw e (ap Done (sym l')), rw e (w ∙ rw l))
+    record { answer = rw e (ap Done (sym l')); buffer = rw e (w ∙ rw l) }

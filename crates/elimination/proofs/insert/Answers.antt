@@ -22,13 +22,13 @@ returns-then-is_none c =
     let n = a.n in
     let p = mask a.s.pivots in
     let y = mask a.y in
-    let x = c.left_of_lem in
+    let x = c.left_of-left in
     λ C F. (C, onto n (bit_of p) C (bit_of y), inl (place_old a.stride n a.s.count p (mask a.s.used) y a.b.now C F s.requires.3 (mask x.result) x.ensures (onto n (bit_of p) C (bit_of y)) (λ i. refl) (eqb-true (mask x.result) 0 (sym c.is_none.ensures ∙ c.if-is_none.true))))
 
 pub extend-requires : goal.extend-requires
 extend-requires c =
     let s = c in
-    let x = c.left_of_lem in
+    let x = c.left_of-left in
     let some = eqb-false (mask x.result) 0 (sym c.is_none.ensures ∙ c.if-is_none.false) in
     (s.requires.0, s.requires.1, s.requires.2, s.requires.3, s.requires.4, s.requires.5, x.ensures, omega (arith, some))
 

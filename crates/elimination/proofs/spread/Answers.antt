@@ -9,7 +9,7 @@ use Rattle.rows.specs.Row.{mask}
 use Rattle.rows.proofs.BitLaws.{bit_below}
 use Rattle.elimination.proofs.FoldLaws.{folded_pivots, folded_none}
 use borrow.Author.Rules.{rules}
-use Rattle.elimination.proofs.spread.Goals.{Joined-stride-k}
+use Rattle.elimination.proofs.spread.Goals.{Joined-stride-k, then-stride-k, else-stride-k}
 use Rattle.elimination.proofs.spread.Goals as goal
 
 -- The rows to do are in the block, and those of the pivots are among them.
@@ -17,10 +17,10 @@ among : (c : Joined-stride-k) → (c.if-stride-k.k ≤ c.args.stride) × ((j : �
 among c =
     let s = c in
     let u = c.span-k in
-    ⊎_elim
-    (λ w. (omega (arith, w.1), λ j h e. omega (arith, w.1, s.requires.1)))
-    (λ w. (omega (arith, w.1, w.0.left), λ j h e. subst (λ k. j < k) (sym w.1) (bit_below u.result u.ensures.1 j e)))
-    c.if-stride-k.branch
+    elim s.if-stride-k.branch [
+      then-stride-k w ↦ (omega arith, λ j h e. omega (arith, s.requires.1))
+    | else-stride-k w ↦ (omega arith, λ j h e. subst (λ k. j < k) (sym w.k-is) (bit_below u.result u.ensures.1 j e))
+    ]
 
 pub fold-requires : goal.fold-requires
 fold-requires c =

@@ -13,4 +13,4 @@ pub clear_lowest-requires : goal.clear_lowest-requires
 clear_lowest-requires c = let some = eqb-false (mask c.args.x) 0 (sym c.is_none.ensures ∙ c.if-is_none.false) in omega (arith, some)
 
 pub returns : goal.returns
-returns c = λ r p. sym c.clear_lowest_lem.ensures ∙ eqb-true (mask c.clear_lowest_lem.result) 0 (sym c.is_none-2.ensures ∙ r)
+returns c = λ r p. sym c.clear_lowest.ensures ∙ eqb-true (mask c.clear_lowest.result) 0 (sym c.is_none-2.ensures ∙ r)

@@ -102,7 +102,7 @@ clear_lowest-z-requires c = some (goal.at.clear_lowest-z-requires c).In-loop-z
 pub loop-z-smaller : goal.loop-z-smaller
 loop-z-smaller c =
     let b = c in
-    cleared_less (mask b.loop-z.z) (some (goal.at.loop-z-smaller b).In-loop-z) c.clear_lowest_lem.ensures
+    cleared_less (mask b.loop-z.z) (some (goal.at.loop-z-smaller b).In-loop-z) c.clear_lowest-z.ensures
 
 pub loop-z-preserved : goal.loop-z-preserved
 loop-z-preserved c =
@@ -110,16 +110,16 @@ loop-z-preserved c =
     let t = b in
     let v = t.loop-z in
     let s = b in
-    let less = cleared_less (mask v.z) (some (goal.at.loop-z-smaller t).In-loop-z) c.clear_lowest_lem.ensures in (
+    let less = cleared_less (mask v.z) (some (goal.at.loop-z-smaller t).In-loop-z) c.clear_lowest-z.ensures in (
       omega (arith, v.invariant.0),
       left_lowest (row_at s.args.bytes.now s.args.l) (mask s.args.x) (mask v.z) (mask v.y0) b.lowest-i.result (some (goal.at.loop-z-smaller t).In-loop-z) v.invariant.0 b.lowest-i.ensures.1 b.lowest-i.ensures.2
-          c.row_at.ensures c.xor-y0.ensures c.clear_lowest_lem.ensures v.invariant.1,
+          c.row_at.ensures c.xor-y0.ensures c.clear_lowest-z.ensures v.invariant.1,
       left_lowest (row_at s.args.bytes.now (s.args.l + 1)) (mask s.args.x) (mask v.z) (mask v.y1) b.lowest-i.result (some (goal.at.loop-z-smaller t).In-loop-z) v.invariant.0 b.lowest-i.ensures.1 b.lowest-i.ensures.2
-          c.row_at-in-loop-z.ensures c.xor-y1.ensures c.clear_lowest_lem.ensures v.invariant.2,
+          c.row_at-in-loop-z.ensures c.xor-y1.ensures c.clear_lowest-z.ensures v.invariant.2,
       left_lowest (row_at s.args.bytes.now (s.args.l + 2)) (mask s.args.x) (mask v.z) (mask v.y2) b.lowest-i.result (some (goal.at.loop-z-smaller t).In-loop-z) v.invariant.0 b.lowest-i.ensures.1 b.lowest-i.ensures.2
-          c.row_at-in-loop-z-2.ensures c.xor-y2.ensures c.clear_lowest_lem.ensures v.invariant.3,
+          c.row_at-in-loop-z-2.ensures c.xor-y2.ensures c.clear_lowest-z.ensures v.invariant.3,
       left_lowest (row_at s.args.bytes.now (s.args.l + 3)) (mask s.args.x) (mask v.z) (mask v.y3) b.lowest-i.result (some (goal.at.loop-z-smaller t).In-loop-z) v.invariant.0 b.lowest-i.ensures.1 b.lowest-i.ensures.2
-          c.row_at-in-loop-z-3.ensures c.xor-y3.ensures c.clear_lowest_lem.ensures v.invariant.4,
+          c.row_at-in-loop-z-3.ensures c.xor-y3.ensures c.clear_lowest-z.ensures v.invariant.4,
     )
 
 pub returns : goal.returns

@@ -44,7 +44,7 @@ pub clear_lowest-z-requires : goal.clear_lowest-z-requires
 clear_lowest-z-requires c = some (goal.at.clear_lowest-z-requires c).In-loop-z
 
 pub loop-z-smaller : goal.loop-z-smaller
-loop-z-smaller c = cleared_less (mask c.loop-z.z) (some (goal.at.loop-z-smaller c).In-loop-z) c.clear_lowest_lem.ensures
+loop-z-smaller c = cleared_less (mask c.loop-z.z) (some (goal.at.loop-z-smaller c).In-loop-z) c.clear_lowest-z.ensures
 
 pub loop-z-preserved : goal.loop-z-preserved
 loop-z-preserved c =
@@ -52,10 +52,10 @@ loop-z-preserved c =
     let v = b.loop-z in
     let s = b in
     let q = c.lowest-i in
-    let less = cleared_less (mask v.z) (some (goal.at.loop-z-smaller b).In-loop-z) c.clear_lowest_lem.ensures in (
+    let less = cleared_less (mask v.z) (some (goal.at.loop-z-smaller b).In-loop-z) c.clear_lowest-z.ensures in (
       omega (arith, v.invariant.0),
       left_lowest (row_at s.args.bytes.now s.args.l) (mask s.args.x) (mask v.z) (mask v.y) q.result (some (goal.at.loop-z-smaller b).In-loop-z) v.invariant.0 q.ensures.1 q.ensures.2
-          c.row_at.ensures c.xor-y.ensures c.clear_lowest_lem.ensures v.invariant.1,
+          c.row_at.ensures c.xor-y.ensures c.clear_lowest-z.ensures v.invariant.1,
     )
 
 pub returns : goal.returns

@@ -68,7 +68,7 @@ clear_lowest-z-requires c = some (goal.at.clear_lowest-z-requires c).In-loop-z
 pub loop-z-smaller : goal.loop-z-smaller
 loop-z-smaller c =
     let b = c in
-    cleared_less (mask b.loop-z.z) (some (goal.at.loop-z-smaller b).In-loop-z) c.clear_lowest_lem.ensures
+    cleared_less (mask b.loop-z.z) (some (goal.at.loop-z-smaller b).In-loop-z) c.clear_lowest-z.ensures
 
 pub loop-z-preserved : goal.loop-z-preserved
 loop-z-preserved c =
@@ -76,12 +76,12 @@ loop-z-preserved c =
     let t = b in
     let v = t.loop-z in
     let s = b in
-    let less = cleared_less (mask v.z) (some (goal.at.loop-z-smaller t).In-loop-z) c.clear_lowest_lem.ensures in (
+    let less = cleared_less (mask v.z) (some (goal.at.loop-z-smaller t).In-loop-z) c.clear_lowest-z.ensures in (
       omega (arith, v.invariant.0),
       left_lowest (row_at s.args.bytes.now s.args.l) (mask s.args.x) (mask v.z) (mask v.y) b.lowest-i.result (some (goal.at.loop-z-smaller t).In-loop-z) v.invariant.0 b.lowest-i.ensures.1 b.lowest-i.ensures.2
-          c.row_at.ensures c.xor-y.ensures c.clear_lowest_lem.ensures v.invariant.1,
+          c.row_at.ensures c.xor-y.ensures c.clear_lowest-z.ensures v.invariant.1,
       left_lowest (row_at s.args.bytes.now (s.args.l + 1)) (mask s.args.x) (mask v.z) (mask v.w) b.lowest-i.result (some (goal.at.loop-z-smaller t).In-loop-z) v.invariant.0 b.lowest-i.ensures.1 b.lowest-i.ensures.2
-          c.row_at-in-loop-z.ensures c.xor-w.ensures c.clear_lowest_lem.ensures v.invariant.2,
+          c.row_at-in-loop-z.ensures c.xor-w.ensures c.clear_lowest-z.ensures v.invariant.2,
     )
 
 pub returns : goal.returns
