@@ -3,12 +3,12 @@
 ghost use Rattle.std.specs.Prelude.{◌≡◌, ◌+◌, ◌<◌, ◌≤◌, length};
 ghost use Rattle.std.proofs.lemmas.List.Edits.{sets};
 ghost use Rattle.automata.specs.Word.{Over};
-ghost use Rattle.text.specs.Text.{digit as figureOf, decimal, word_text};
+ghost use Rattle.text.specs.Text.{digit as figure_of, decimal, word_text};
 
 // The figure of a number below 10.
 fn digit(x: u8) -> u8
     requires { x < 10 }
-    ensures { result ≡ figureOf x }
+    ensures { result ≡ figure_of x }
 {
     b'0' + x
 }

@@ -19,17 +19,11 @@ none c = ap length (word_none c.args.word.now c.if-word-eq0.true)
 digits : (c : Else-word-eq0) → length (word_text c.args.word.now) ≡ length c.args.word.now
 digits c = word_length c.args.word.now c.if-word-eq0.false
 
--- UNMATCHED slice-aggregate-put
-{-
-slice-aggregate-put : tie.Need-slice-aggregate-put invariant-loop decreases-loop
-slice-aggregate-put c = search rules
--}
-
 pub put-requires : goal.put-requires
 put-requires c = let l = none (goal.at.put-requires c).Then-word-eq0 in omega arith
 
 pub shape_of-line-then-word-eq0 : goal.shape_of-line-then-word-eq0
-shape_of-line-then-word-eq0 c = c.put.auto.0
+shape_of-line-then-word-eq0 c = c.put.auto.line
 
 pub returns-then-word-eq0 : goal.returns-then-word-eq0
 returns-then-word-eq0 c =

@@ -1,0 +1,61 @@
+-- `expand_letters`: the letters below l are done; row k stays, so that the line keeps its products.
+use mathlib.Core.Path.{◌≡◌, refl, sym, ap, ◌∙◌}
+use Prim.Native.Nat.{◌-◌, ◌≤◌, ◌<◌}
+use native.Mathlib.Omega.{arith}
+use Rattle.rows.specs.Row.{width, mask}
+use Rattle.rows.specs.Table.{at}
+use Rattle.rows.specs.Product.{product}
+use Rattle.basis.specs.Basis.{cell, bits}
+use Rattle.kernels.specs.Products.{Products}
+use Rattle.reduction.specs.Tables.{Searching}
+use Rattle.reduction.proofs.TableSearch.{count_bound, found_low, searching_next}
+use Rattle.reduction.proofs.expand_letters.Goals.{After-multiply, Start}
+use Rattle.reduction.proofs.expand_letters.Goals as goal
+
+-- There are at most as many rows as bits.
+below : (s : Start) → s.args.k < width
+below s = omega (arith, count_bound width s.args.m.states s.args.s.count (mask s.args.s.pivots) (bits width s.args.b.now 2) s.args.b.now s.requires.1.search.basis, s.requires.0.states, s.requires.2)
+
+-- The line has the products of row k.
+made : (c : After-multiply) → Products c.args.m.letters c.args.m.states (cell width c.args.b.now 1 c.args.k) (at c.args.t.now) c.multiply.new.y
+made c =
+    let s = c in
+    let a = s.args in
+    let n = a.m.states in
+    c.multiply.ensures n (found_low width n a.s.count (mask a.s.pivots) (bits width a.b.now 2) a.b.now s.requires.1.search.basis a.k s.requires.2)
+
+pub multiply-requires : goal.multiply-requires
+multiply-requires c = (c.requires.0.letters, c.requires.1.base, below (goal.at.multiply-requires c).Start, refl)
+
+pub loop-l-init : goal.loop-l-init
+loop-l-init c = (omega arith, c.requires.1, omega arith, refl)
+
+pub pick-z-requires : goal.pick-z-requires
+pick-z-requires c = omega (arith, c.loop-l-test.true, c.requires.0.letters)
+
+pub step-r-requires : goal.step-r-requires
+step-r-requires c =
+    let v = c.loop-l in
+    let y = c in
+    let s = y in
+    let a = s.args in
+    (s.requires.0, v.invariant.1, omega (arith, v.invariant.2, s.requires.2), omega (arith, c.loop-l-test.true), c.pick-z.ensures ∙ made (goal.at.step-r-requires y).After-multiply v.l (omega (arith, c.loop-l-test.true)) ∙ ap (λ x. product a.m.states x (at a.t.now v.l)) (sym v.invariant.3))
+
+pub overflow_add-l : goal.overflow_add-l
+overflow_add-l c = omega (arith, c.loop-l-test.true, c.requires.0.letters)
+
+pub loop-l-smaller : goal.loop-l-smaller
+loop-l-smaller c = omega (arith, c.loop-l-test.true)
+
+pub loop-l-preserved : goal.loop-l-preserved
+loop-l-preserved c =
+    let v = c.loop-l in
+    let e = c.step-r.ensures in
+    (omega (arith, c.loop-l-test.true), e.0, omega (arith, e.1, v.invariant.2), e.2 ∙ v.invariant.3)
+
+pub returns : goal.returns
+returns c =
+    let v = c.loop-l in
+    let a = c.args in
+    let e : v.l ≡ a.m.letters = omega arith in
+    (searching_next a.m.letters a.t.now a.m.states (mask a.m.initial) (mask a.m.finals) v.b v.out v.r.count a.k (mask v.r.pivots) (mask v.r.used) (rw e at v.invariant.1), v.invariant.2)

@@ -1,0 +1,18 @@
+-- `expand_letters`: the letters below l are done; row k stays, so that the line keeps its products.
+use mathlib.Core.Path.{◌≡◌, refl, sym, ap, ◌∙◌}
+use Prim.Native.Nat.{◌-◌, ◌≤◌, ◌<◌}
+use native.Mathlib.Omega.{arith}
+use Rattle.rows.specs.Row.{width, mask}
+use Rattle.rows.specs.Table.{at}
+use Rattle.rows.specs.Product.{product}
+use Rattle.basis.specs.Basis.{cell, bits}
+use Rattle.kernels.specs.Products.{Products}
+use Rattle.reduction.specs.Tables.{Searching}
+use Rattle.reduction.proofs.TableSearch.{count_bound, found_low, searching_next}
+use Rattle.reduction.proofs.expand_letters.Given as goal
+
+abbrev pub invariant-loop-l : goal.invariant-loop-l
+invariant-loop-l l = (l.l ≤ l.m.letters) × Searching l.m.letters l.t l.m.states (mask l.m.initial) (mask l.m.finals) l.b l.out l.r.count l.k l.l (mask l.r.pivots) (mask l.r.used) × (l.initial.r.count ≤ l.r.count) × (cell width l.b 1 l.k ≡ cell width l.initial.b 1 l.k)
+
+abbrev pub decreases-loop-l : goal.decreases-loop-l
+decreases-loop-l l = l.m.letters - l.l

@@ -1,0 +1,17 @@
+-- `look_up_row`: the letters below l are done.
+use mathlib.Core.Path.{◌≡◌, refl, ◌∙◌}
+use Prim.Native.Nat.{◌-◌, ◌≤◌, ◌<◌}
+use native.Mathlib.Omega.{arith}
+use Rattle.rows.specs.Row.{width, mask}
+use Rattle.rows.specs.Table.{at}
+use Rattle.basis.specs.Basis.{cell, bits}
+use Rattle.kernels.specs.Products.{Products}
+use Rattle.reduction.specs.Tables.{Searching}
+use Rattle.reduction.proofs.TableSearch.{count_bound, found_low, searching_next}
+use Rattle.reduction.proofs.look_up_row.Given as goal
+
+abbrev pub invariant-loop-l : goal.invariant-loop-l
+invariant-loop-l l = (l.l ≤ l.m.letters) × Searching l.m.letters l.t l.m.states (mask l.m.initial) (mask l.m.finals) l.b l.out l.s.count l.k l.l (mask l.s.pivots) (mask l.s.used)
+
+abbrev pub decreases-loop-l : goal.decreases-loop-l
+decreases-loop-l l = l.m.letters - l.l
