@@ -47,7 +47,7 @@ up c l y h e =
     moves_up a.first.now a.second.now s.requires.0 s.requires.1 k.result y k.ensures.0 (product_below a.second.now s.requires.1 l (mask c.split-p.result.high) y (omega (arith, s.requires.2, s.requires.3)) e)
 
 pub moved-requires : goal.moved-requires
-moved-requires c = up (c) 0 _ (omega arith) c.times_two-z.ensures.0
+moved-requires c = up (goal.at.moved-requires c).After-times_two-z 0 _ (omega arith) c.times_two-z.ensures.0
 
 pub xor-requires : goal.xor-requires
 xor-requires c = tt

@@ -13,7 +13,7 @@ pub times_all-requires : goal.times_all-requires
 times_all-requires c = (c.requires.0, c.requires.3)
 
 pub returns : goal.returns
-returns c =
+returns c n h =
     let a = c.args in
     let e = c.get-x.ensures in
     subst (λ x. Products a.a n x (at a.t.now) c.times_all.new.s) e (c.times_all.ensures n (subst (λ x. x < 2 ^ n) (sym e) h))

@@ -23,19 +23,16 @@ answer c b e =
     let t = r.read-m.new.t in
     let m = r.read-m.result in
     let reached = c.follow-x.ensures in
-    test_answer s.args.bytes.now s.args.word.now (passed r) t m r.read-m.ensures b
+    test_answer s.args.bytes.now s.args.word.now (sym r.check-c.ensures ∙ r.in-Good.is) t m r.read-m.ensures b
     (sym (reached_accepts t m r.read-m.ensures.valid s.args.word.now c.follow-x.result reached)
     ∙ sym (c.parity.ensures m.states reached.below)
     ∙ e)
 
--- The answer, and with it what is claimed.
-both : (bs w : List ℕ) (r : Tested) → r ≡ test_of bs w → (r ≡ test_of bs w) × Tests bs w r
-both bs w r e = (e, tests bs w r e)
-
 pub returns-in_default : goal.returns-in_default
 returns-in_default c =
     let k = c in
-    both _ _ c.refused.result (c.refused.ensures ∙ rw c.in_default.is (sym (test_refused _ _ (sym k.check-c.ensures ∙ c.in_default.is))))
+    let e : c.refused.result ≡ test_of c.args.bytes.now c.args.word.now = c.refused.ensures ∙ rw c.in_default.is (sym (test_refused _ _ (sym k.check-c.ensures ∙ c.in_default.is))) in
+    record { answer = e; claims = tests _ _ _ e }
 
 pub read-m-requires : goal.read-m-requires
 read-m-requires c = (passed (goal.at.read-m-requires c).In-Good, refl)
@@ -44,7 +41,11 @@ pub follow-x-requires : goal.follow-x-requires
 follow-x-requires c = c.read-m.ensures.valid
 
 pub returns-then-parity : goal.returns-then-parity
-returns-then-parity c = both _ _ _ (sym (answer (goal.at.returns-then-parity c).After-parity true c.if-parity.true))
+returns-then-parity c =
+    let e = sym (answer (goal.at.returns-then-parity c).After-parity true c.if-parity.true) in
+    record { answer = e; claims = tests _ _ _ e }
 
 pub returns-else-parity : goal.returns-else-parity
-returns-else-parity c = both _ _ _ (sym (answer (goal.at.returns-else-parity c).After-parity false c.if-parity.false))
+returns-else-parity c =
+    let e = sym (answer (goal.at.returns-else-parity c).After-parity false c.if-parity.false) in
+    record { answer = e; claims = tests _ _ _ e }
