@@ -1,10 +1,10 @@
 -- One record after another: a reader that has given out no whole record stays where it is, so it need not be asked again.
 use mathlib.Core.Path.{◌≡◌, refl, sym, ap, ◌∙◌}
-use mathlib.Core.Bool.{not}
+use mathlib.Core.Bool.{true, false}
 use mathlib.Core.List.{List}
 use Prim.Native.Nat.{ℕ, zero, suc, ◌+◌, ◌≤◌}
 use native.Mathlib.Omega.{arith}
-use lib.Dec.{T, eqb→eq}
+use borrow.Author.Tests.{eqb-true}
 use Rattle.script.specs.Script.{part_at, after_part, read_to, part_of_index, is_last}
 use Rattle.script.specs.declared.Part.{Part}
 use Rattle.script.specs.declared.Part.TheVariants.{Whole, Refused, End}
@@ -27,22 +27,22 @@ module _ (s : List ℕ) where
       ap (read_to s) e ∙ read_on (j + k) ∙ ap (λ at. after_part (part_at s at) at) (stays k j still) ∙ sym (read_on k) ∙ still
 
   -- The part after which no more is asked for is the one that is wanted.
-  pub last_wanted : (k left : ℕ) → T (is_last (part_of_index s k) left) → part_of_index s k ≡ part_of_index s (left + k)
+  pub last_wanted : (k left : ℕ) → is_last (part_of_index s k) left ≡ true → part_of_index s k ≡ part_of_index s (left + k)
   last_wanted k left h = go (part_of_index s k) refl h
     where
       stood : read_to s (suc k) ≡ read_to s k → part_of_index s k ≡ part_of_index s (left + k)
       stood still = ap (part_at s) (sym (stays k left still))
 
-      go : (p : Part) → part_of_index s k ≡ p → T (is_last p left) → part_of_index s k ≡ part_of_index s (left + k)
+      go : (p : Part) → part_of_index s k ≡ p → is_last p left ≡ true → part_of_index s k ≡ part_of_index s (left + k)
       go (Whole start next) e none =
-          let z : left ≡ 0 = eqb→eq left 0 none in
+          let z : left ≡ 0 = eqb-true left 0 none in
           let same : k ≡ left + k = omega arith in
           ap (part_of_index s) same
       go (Refused number place) e none = stood (read_on k ∙ ap (λ p. after_part p (read_to s k)) e)
       go End e none = stood (read_on k ∙ ap (λ p. after_part p (read_to s k)) e)
 
-pub more_wanted : (p : Part) (left : ℕ) → T (not (is_last p left)) → 1 ≤ left
-more_wanted (Whole start next) zero more = absurd more
+pub more_wanted : (p : Part) (left : ℕ) → is_last p left ≡ false → 1 ≤ left
+more_wanted (Whole start next) zero more = absurd (cc)
 more_wanted (Whole start next) (suc left) more = omega arith
-more_wanted (Refused number place) left more = absurd more
-more_wanted End left more = absurd more
+more_wanted (Refused number place) left more = absurd (cc)
+more_wanted End left more = absurd (cc)

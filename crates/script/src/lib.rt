@@ -1,5 +1,6 @@
 // The reader of a script: records end to end in a lent slice, given out one after another.
 #![tactic(auto)]
+
 ghost use Rattle.std.specs.Prelude.{◌≡◌};
 ghost use Rattle.script.specs.Script.{passed, part_at, after_part, Advances, is_last, part_of_index};
 

@@ -2,7 +2,6 @@
 use mathlib.Core.Path.{sym, ap}
 use Rattle.script.specs.Script.{after_part}
 use Rattle.script.specs.declared.Part.{Part}
-use borrow.Author.Rules.{rules}
 use Rattle.script.proofs.after.Goals as goal
 
 pub returns-in-Whole : goal.returns-in-Whole

@@ -2,7 +2,6 @@
 use mathlib.Core.Path.{sym, ap}
 use Rattle.script.specs.Script.{is_last}
 use Rattle.script.specs.declared.Part.{Part}
-use borrow.Author.Rules.{rules}
 use Rattle.script.proofs.last.Goals as goal
 
 pub returns-in-Whole : goal.returns-in-Whole

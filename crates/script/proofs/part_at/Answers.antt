@@ -10,7 +10,6 @@ use Rattle.record.specs.declared.Checked.TheVariants.{Good}
 use Rattle.script.specs.Script.{passed as rows}
 use Rattle.script.specs.declared.Part.TheVariants.{Whole, Refused, End}
 use Rattle.script.proofs.Parts.{end_met, front_met, short_met, whole_met}
-use borrow.Author.Rules.{rules}
 use Rattle.script.proofs.part_at.Goals.{After-need-whole, In-Good}
 use Rattle.script.proofs.part_at.Goals as goal
 

@@ -1,5 +1,4 @@
 -- `refuse`: by cases on what rows 1 to 5 found.
-use borrow.Author.Rules.{rules}
 use Rattle.script.proofs.refuse.Goals as goal
 
 pub returns-in-Refused : goal.returns-in-Refused
