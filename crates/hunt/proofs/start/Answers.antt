@@ -1,0 +1,28 @@
+-- `start`: the basis was empty before the initial row.
+use mathlib.Core.Path.{sym, subst}
+use mathlib.Core.Bool.{Bool, false}
+use Prim.Native.Nat.{ℕ}
+use Rattle.rows.specs.Row.{mask}
+use Rattle.elimination.specs.Place.{BasisIn}
+use Rattle.reduction.proofs.TableSearch.{empty_basis, empty_cover}
+use borrow.Author.Rules.{rules}
+use Rattle.hunt.proofs.start.Goals as goal
+
+-- No coefficients: there is no row yet.
+none_yet : ℕ → ℕ → Bool
+none_yet j i = false
+
+pub insert-requires : goal.insert-requires
+insert-requires c =
+    let s = c in
+    let a = s.args in
+    let n = a.m.states in
+    let e = c.none-none in
+    (s.requires.0, s.requires.1, s.requires.3, s.requires.2, (none_yet, subst (λ p. BasisIn a.stride n 0 p none_yet a.b.now) (sym e.ensures) (empty_basis a.stride n none_yet a.b.now)), empty_cover a.stride (mask e.result) a.b.now)
+
+pub returns : goal.returns
+returns c =
+    let a = c.args in
+    let e = rw c.none-none.ensures at c.insert.ensures in
+    let P = e none_yet (empty_basis a.stride a.m.states none_yet a.b.now) in
+    record { coef = none_yet; coef' = P.0; made = P.1; placed = P.2 }

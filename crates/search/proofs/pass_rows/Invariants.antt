@@ -1,0 +1,23 @@
+-- `pass_rows`: the rows from k to j are done for every trail.
+use mathlib.Core.Path.{refl, sym, ap, ◌∙◌}
+use mathlib.Core.Bool.{not}
+use mathlib.Core.List.{List}
+use Prim.Native.Nat.{ℕ, ◌-◌, ◌≤◌}
+use native.Mathlib.Omega.{arith}
+use Rattle.automata.proofs.Xor.{not_not}
+use Rattle.rows.specs.Row.{mask}
+use Rattle.basis.specs.Basis.{cell}
+use Rattle.lookup.specs.Lookup.{chosen}
+use Rattle.reduction.proofs.TableSearch.{count_bound}
+use Rattle.hunt.specs.Both.{beside_of}
+use Rattle.hunt.specs.Hunt.{HuntingIn}
+use Rattle.hunt.proofs.BothLaws.{paired_rows}
+use Rattle.search.proofs.TryLaws.{found_below}
+use Rattle.search.proofs.PassLaws.{row_kept}
+use Rattle.search.proofs.pass_rows.Given as goal
+
+abbrev pub invariant-loop-j : goal.invariant-loop-j
+invariant-loop-j l = (l.k ≤ l.j) × (l.j ≤ l.s.count) × ((w : List ℕ) → HuntingIn l.stride l.first l.second l.m l.b w l.s l.k 0 → HuntingIn l.stride l.first l.second l.m l.b w l.s l.j 0)
+
+abbrev pub decreases-loop-j : goal.decreases-loop-j
+decreases-loop-j l = l.s.count - l.j

@@ -1,0 +1,74 @@
+-- `paired`: the fields of the second record are moved up by the states of the first.
+use mathlib.Core.Path.{ap₂, ◌∙◌}
+use Prim.Native.Nat.{◌+◌, ◌*◌, ◌^◌, ◌≤◌}
+use native.Mathlib.Omega.{arith}
+use lib.Bits.{bit_xor}
+use lib.ListN.{length}
+use Rattle.rows.proofs.BesideLaws.{moved_fits}
+use Rattle.record.specs.Record.{states_of}
+use Rattle.record.proofs.Refusals.{good_check}
+use Rattle.hunt.proofs.BothLaws.{field_below}
+use borrow.Author.Rules.{rules}
+use Rattle.verdict.proofs.paired.Goals.{Start}
+use Rattle.verdict.proofs.paired.Goals as goal
+
+-- A well-formed record has its head, I and F, and at most 32 states.
+front : (s : Start) → (15 ≤ length s.args.first.now) × (15 ≤ length s.args.second.now) × (states_of s.args.first.now ≤ 32) × (states_of s.args.second.now ≤ 32)
+front s =
+    let p = good_check s.args.first.now s.requires.0 in
+    let q = good_check s.args.second.now s.requires.1 in
+    (omega (arith, p.whole), omega (arith, q.whole), p.front.states, q.front.states)
+
+pub bounds-first-5 : goal.bounds-first-5
+bounds-first-5 c = omega (arith, (front (goal.at.bounds-first-5 c).Start).0)
+
+pub bounds-second-5 : goal.bounds-second-5
+bounds-second-5 c = omega (arith, (front (goal.at.bounds-second-5 c).Start).1)
+
+pub field_at-requires : goal.field_at-requires
+field_at-requires c = omega (arith, (front (goal.at.field_at-requires c).Start).1)
+
+pub moved-i-requires : goal.moved-i-requires
+moved-i-requires c =
+    let s = c in
+    let f = front (goal.at.moved-i-requires s).Start in
+    let e = c.size-n.ensures.0 in
+    (omega (arith, e, f.2), rw (e, c.field_at.ensures) (moved_fits (states_of s.args.first.now) (states_of s.args.second.now) _ (field_below s.args.second.now s.requires.1).0 (omega (arith, f.2, f.3))))
+
+pub field_at-requires-2 : goal.field_at-requires-2
+field_at-requires-2 c = omega (arith, (front (goal.at.field_at-requires-2 c).Start).1)
+
+pub moved-f-requires : goal.moved-f-requires
+moved-f-requires c =
+    let s = c in
+    let f = front (goal.at.moved-f-requires s).Start in
+    let e = c.size-n.ensures.0 in
+    (omega (arith, e, f.2), rw (e, c.field_at-2.ensures) (moved_fits (states_of s.args.first.now) (states_of s.args.second.now) _ (field_below s.args.second.now s.requires.1).1 (omega (arith, f.2, f.3))))
+
+pub field_at-requires-3 : goal.field_at-requires-3
+field_at-requires-3 c = omega (arith, (front (goal.at.field_at-requires-3 c).Start).0)
+
+pub field_at-requires-4 : goal.field_at-requires-4
+field_at-requires-4 c = omega (arith, (front (goal.at.field_at-requires-4 c).Start).0)
+
+pub overflow_add-result : goal.overflow_add-result
+overflow_add-result c =
+    let f = front (goal.at.overflow_add-result c).Start in
+    omega (arith, c.size-n.ensures, c.size-k.ensures, f.2, f.3)
+
+pub bounds-first-6 : goal.bounds-first-6
+bounds-first-6 c = omega (arith, (front (goal.at.bounds-first-6 c).Start).0)
+
+pub returns : goal.returns
+returns c =
+    let s = c in
+    let e = c.size-n.ensures.0 in
+    record {
+      first = s.requires.0;
+      second = s.requires.1;
+      same = s.requires.2;
+      states = ap₂ ◌+◌ e c.size-k.ensures.0;
+      letters = c.size.ensures.0;
+      initial = c.xor-initial.ensures ∙ ap₂ bit_xor c.field_at-3.ensures (c.moved-i.ensures ∙ ap₂ (λ x n. x * 2 ^ n) c.field_at.ensures e);
+      finals = c.xor-finals.ensures ∙ ap₂ bit_xor c.field_at-4.ensures (c.moved-f.ensures ∙ ap₂ (λ x n. x * 2 ^ n) c.field_at-2.ensures e);
+    }
