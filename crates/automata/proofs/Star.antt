@@ -8,7 +8,7 @@ use Rattle.automata.specs.Xor.{◌⊕◌}
 use Rattle.automata.specs.Automaton.{odd}
 use Rattle.automata.specs.Word.{Over}
 use Rattle.automata.specs.Language.{Language, Same, symmetric_difference}
-use Rattle.automata.specs.Cuts.{empty_word, after, concatenation, rest_count, star_count, star, SolvesStar}
+use Rattle.automata.specs.Cuts.{empty_word, after, concatenation, rest_count, star, SolvesStar}
 use Rattle.automata.proofs.Xor.{xor_comm, odd_add, odd_when}
 use Rattle.automata.proofs.Concatenation.{concatenation_nil, concatenation_cons, concatenation_reads}
 

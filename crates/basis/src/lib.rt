@@ -1,5 +1,6 @@
 // The table that a search works in, lent: three blocks of `stride` rows. Which rows stand in which block, the crates above say.
 #![tactic(auto)]
+
 ghost use Rattle.std.specs.Prelude.{◌≡◌, ℕ, ◌^◌, ◌<◌};
 ghost use Rattle.rows.specs.Row.{mask};
 ghost use Rattle.rows.specs.Product.{product};

@@ -1,6 +1,7 @@
 // Rows over GF(2) as unsigned masks: bit j, worth 2^j, stands for state j. How wide a row is stands behind the names Row and
 // Table: the crates above use these functions and those of `kernels` alone, and their contracts name no width but `width`.
 #![tactic(auto)]
+
 ghost use Rattle.std.specs.Prelude.{◌≡◌, Bool, true, false, ◌&&◌, cond, ℕ, ◌+◌, ◌-◌, ◌*◌, ◌/◌, ◌^◌, ◌≤◌, ◌<◌, eqb, ltb};
 ghost use Rattle.std.specs.Int.Bits.{bit_xor, bit_and, bit_or};
 ghost use Rattle.automata.specs.Xor.{xor_below};

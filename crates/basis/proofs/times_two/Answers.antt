@@ -1,13 +1,13 @@
 -- `times_two`: for each of the two matrices, what the bits passed have given, xor what those to come will give, is the product.
 use mathlib.Core.Path.{◌≡◌}
-use Prim.Native.Nat.{◌+◌, ◌-◌, ◌*◌, ◌^◌, ◌≤◌, ◌<◌}
+use Prim.Native.Nat.{◌+◌, ◌-◌, ◌*◌, ◌<◌}
 use native.Mathlib.Omega.{arith}
 use borrow.Author.Rules.{rules}
 use lib.ListN.{length}
 use lib.Count.{count_trailing_zeros}
 use lib.Bits.{and_le_r}
 use Rattle.rows.specs.Row.{mask}
-use Rattle.rows.proofs.ProductLaws.{Left, left_start, left_step, left_end}
+use Rattle.rows.proofs.ProductLaws.{left_start, left_step, left_end}
 use Rattle.basis.specs.Basis.{cell}
 use Rattle.basis.proofs.BasisLaws.{block_inside, lowest_inside}
 use Rattle.basis.proofs.times_two.Goals.{In-loop-s}

@@ -4,7 +4,6 @@ use native.Mathlib.Omega.{arith}
 use lib.Bits.{bit_xor}
 use Rattle.rows.specs.Row.{mask}
 use Rattle.elimination.proofs.PlaceLaws.{added_turn}
-use borrow.Author.Rules.{rules}
 use Rattle.elimination.proofs.add.Goals as goal
 
 pub returns : goal.returns

@@ -7,7 +7,6 @@ use Rattle.automata.specs.Mask.{bit_of}
 use Rattle.rows.specs.Row.{mask}
 use Rattle.basis.specs.Basis.{bits}
 use Rattle.elimination.proofs.PlaceLaws.{own_of, coef_of, if_same, if_other, place_new, both_below, unused}
-use borrow.Author.Rules.{rules}
 use Rattle.elimination.proofs.extend.Goals as goal
 
 -- The new pivot is below n, and there is room for one more row.

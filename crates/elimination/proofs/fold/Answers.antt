@@ -1,9 +1,8 @@
 -- `fold`: the rows below j are done, those from j on are as they were.
 use mathlib.Core.Path.{◌≡◌}
-use Prim.Native.Nat.{◌-◌, ◌≤◌}
 use native.Mathlib.Omega.{arith}
 use Rattle.rows.specs.Row.{mask}
-use Rattle.elimination.proofs.FoldLaws.{Folding, fold_start, fold_turn}
+use Rattle.elimination.proofs.FoldLaws.{fold_start, fold_turn}
 use Rattle.elimination.proofs.fold.Goals as goal
 
 pub loop-j-init : goal.loop-j-init

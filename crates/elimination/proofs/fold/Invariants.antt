@@ -1,9 +1,7 @@
 -- `fold`: the rows below j are done, those from j on are as they were.
-use mathlib.Core.Path.{◌≡◌}
 use Prim.Native.Nat.{◌-◌, ◌≤◌}
-use native.Mathlib.Omega.{arith}
 use Rattle.rows.specs.Row.{mask}
-use Rattle.elimination.proofs.FoldLaws.{Folding, fold_start, fold_turn}
+use Rattle.elimination.proofs.FoldLaws.{Folding}
 use Rattle.elimination.proofs.fold.Given as goal
 
 abbrev pub invariant-loop-j : goal.invariant-loop-j

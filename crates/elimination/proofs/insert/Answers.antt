@@ -9,7 +9,6 @@ use Rattle.automata.specs.Mask.{bit_of}
 use Rattle.rows.specs.Row.{mask}
 use Rattle.elimination.specs.Echelon.{onto}
 use Rattle.elimination.proofs.PlaceLaws.{place_old}
-use borrow.Author.Rules.{rules}
 use Rattle.elimination.proofs.insert.Goals as goal
 
 pub left_of-left-requires : goal.left_of-left-requires

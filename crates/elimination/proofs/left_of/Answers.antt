@@ -2,7 +2,6 @@
 use native.Mathlib.Omega.{arith}
 use Rattle.rows.specs.Row.{mask}
 use Rattle.elimination.proofs.PlaceLaws.{pivots_low, left_of_lem}
-use borrow.Author.Rules.{rules}
 use Rattle.elimination.proofs.left_of.Goals as goal
 
 pub times-e-requires : goal.times-e-requires

@@ -10,7 +10,6 @@ use Rattle.basis.specs.Basis.{bits}
 use Rattle.elimination.specs.Place.{LeftOf}
 use Rattle.elimination.specs.Echelon.{onto}
 use Rattle.elimination.proofs.PlaceLaws.{left_of_lem, on_pivots, place_old, pivots_low, place_kept, both_below, unused, unused_after}
-use borrow.Author.Rules.{rules}
 use Rattle.elimination.proofs.place.Goals.{After-lowest-q, After-xor-left}
 use Rattle.elimination.proofs.place.Goals as goal
 

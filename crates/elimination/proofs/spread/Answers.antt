@@ -1,14 +1,12 @@
 -- `spread`: the pivots stand below their span, and in the block; where the mask lacks the bit, so do the basis rows.
 use mathlib.Core.Path.{◌≡◌, sym, subst, ◌∙◌}
 use mathlib.Core.Bool.{true}
-use mathlib.Core.Logic.{⊎_elim}
 use Prim.Native.Nat.{ℕ, ◌<◌, ◌≤◌}
 use native.Mathlib.Omega.{arith}
 use Rattle.automata.specs.Mask.{bit_of}
 use Rattle.rows.specs.Row.{mask}
 use Rattle.rows.proofs.BitLaws.{bit_below}
 use Rattle.elimination.proofs.FoldLaws.{folded_pivots, folded_none}
-use borrow.Author.Rules.{rules}
 use Rattle.elimination.proofs.spread.Goals.{Joined-stride-k, then-stride-k, else-stride-k}
 use Rattle.elimination.proofs.spread.Goals as goal
 

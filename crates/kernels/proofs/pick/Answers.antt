@@ -1,7 +1,6 @@
 -- `pick` reads the number that stands for the row.
 use mathlib.Core.Path.{refl}
 use Rattle.rows.specs.Row.{mask}
-use borrow.Author.Rules.{rules}
 use Rattle.kernels.proofs.pick.Goals as goal
 
 pub returns : goal.returns

@@ -1,7 +1,6 @@
 -- `times_all`: the line is filled block by block.
 use Prim.Native.Nat.{ℕ}
 use native.Mathlib.Omega.{arith}
-use borrow.Author.Rules.{rules}
 use lib.ListN.{set}
 use Rattle.rows.specs.Row.{mask}
 use Rattle.rows.specs.Table.{at}

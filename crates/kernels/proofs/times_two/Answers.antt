@@ -1,6 +1,6 @@
 -- `times_two`: for each of the two matrices, what the bits passed have given, xor what those to come will give, is the product.
 use mathlib.Core.Path.{◌≡◌}
-use Prim.Native.Nat.{◌-◌, ◌^◌, ◌≤◌, ◌<◌}
+use Prim.Native.Nat.{◌-◌}
 use native.Mathlib.Omega.{arith}
 use borrow.Author.Rules.{rules}
 use lib.Count.{trailing_le}
@@ -8,7 +8,7 @@ use lib.Bits.{and_le_r}
 use Rattle.rows.specs.Row.{mask}
 use Rattle.rows.specs.Table.{at}
 use Rattle.rows.proofs.LowestBit.{lowest_set}
-use Rattle.rows.proofs.ProductLaws.{Left, left_start, left_step, left_end}
+use Rattle.rows.proofs.ProductLaws.{left_start, left_step, left_end}
 use Rattle.kernels.proofs.times_two.Goals as goal
 
 pub overflow_mul-b : goal.overflow_mul-b

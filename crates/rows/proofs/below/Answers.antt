@@ -1,8 +1,7 @@
 -- `below`: 2 ^ n - 1 has every bit below n; of as many bits as a row has, it is the last number.
 use mathlib.Core.Path.{◌≡◌}
-use Prim.Native.Nat.{◌-◌, ◌*◌, ◌%◌, ◌^◌}
+use Prim.Native.Nat.{◌*◌, ◌%◌, ◌^◌}
 use native.Mathlib.Omega.{arith}
-use borrow.Author.Rules.{rules}
 use lib.Pow.{pow_pos}
 use Rattle.rows.specs.Row.{mask}
 use Rattle.rows.proofs.BitLaws.{unit_mask}

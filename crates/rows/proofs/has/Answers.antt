@@ -1,7 +1,6 @@
 -- `has` tests bit j of the mask.
 use Rattle.rows.specs.Row.{mask}
 use Rattle.rows.proofs.BitLaws.{test_bit}
-use borrow.Author.Rules.{rules}
 use Rattle.rows.proofs.has.Goals as goal
 
 pub returns : goal.returns

@@ -1,7 +1,6 @@
 -- `lowered` is the quotient by 2 ^ k.
 use mathlib.Core.Path.{refl}
 use Rattle.rows.specs.Row.{mask}
-use borrow.Author.Rules.{rules}
 use Rattle.rows.proofs.lowered.Goals as goal
 
 pub returns : goal.returns

@@ -1,7 +1,6 @@
 -- `moved` loses no bit, so it is the product by 2 ^ k.
 use native.Mathlib.Nat.{mod-eq_of_lt}
 use Rattle.rows.specs.Row.{mask}
-use borrow.Author.Rules.{rules}
 use Rattle.rows.proofs.moved.Goals as goal
 
 pub returns : goal.returns

@@ -2,7 +2,6 @@
 use mathlib.Core.Path.{refl}
 use Rattle.rows.specs.Row.{mask}
 use Rattle.rows.specs.Table.{stored}
-use borrow.Author.Rules.{rules}
 use Rattle.rows.proofs.store.Goals as goal
 
 pub returns : goal.returns

@@ -5,7 +5,6 @@ use Prim.Native.Nat.{ℕ, zero, suc, ◌<◌}
 use native.Mathlib.Omega.{arith}
 use lib.ListN.{get_or}
 use Rattle.rows.specs.Row.{levels, mask, stripes}
-use borrow.Author.Rules.{rules}
 use Rattle.rows.proofs.stripes.Goals as goal
 
 listed : (b : ℕ) → b < levels → get_or (stripes 0 ∷ stripes 1 ∷ stripes 2 ∷ stripes 3 ∷ stripes 4 ∷ stripes 5 ∷ []) b 0 ≡ stripes b

@@ -1,7 +1,6 @@
 -- `unit` has the mask 2 ^ j.
 use Rattle.rows.specs.Row.{mask}
 use Rattle.rows.proofs.BitLaws.{unit_mask}
-use borrow.Author.Rules.{rules}
 use Rattle.rows.proofs.unit.Goals as goal
 
 pub returns : goal.returns

@@ -2,7 +2,6 @@
 use mathlib.Core.Path.{sym, ap, ◌∙◌}
 use mathlib.Core.Bool.{cond}
 use Rattle.rows.specs.Row.{mask}
-use borrow.Author.Rules.{rules}
 use Rattle.rows.proofs.when.Goals as goal
 
 pub returns-then-b : goal.returns-then-b

@@ -61,7 +61,7 @@ loop-j-preserved c =
     let t = c.fill-g.ensures in
     let x = c.get-x in
     let h = c.loop-j-test.true in
-    (omega arith, omega (arith, h), λ w H. row_kept a.stride m.letters (beside_of bs cs) m.states (mask m.initial) (mask m.finals) (paired_rows bs cs m s.requires.0) a.b.now w a.s.count (mask a.s.pivots) (mask a.s.used) c.fill-g.result t.1 v.j (mask x.result) h x.ensures (c.are_kept.ensures (sym (not_not c.are_kept.result) ∙ ap not c.if-not-are_kept.false) (chosen (mask a.s.pivots) (cell a.stride a.b.now 0)) t.2) (v.invariant.2 w H))
+    (omega arith, omega (arith, h), λ w H. row_kept a.stride m.letters (beside_of bs cs) m.states (mask m.initial) (mask m.finals) (paired_rows bs cs m s.requires.0) a.b.now w a.s.count (mask a.s.pivots) (mask a.s.used) c.fill-g.result t.1 v.j (mask x.result) h x.ensures (c.are_kept.ensures c.if-not-are_kept.false (chosen (mask a.s.pivots) (cell a.stride a.b.now 0)) t.2) (v.invariant.2 w H))
 
 pub returns : goal.returns
 returns c = let v = c.loop-j in (v.invariant.2, v.invariant.0, v.invariant.1)
