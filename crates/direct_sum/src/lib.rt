@@ -1,5 +1,6 @@
 // Two automata side by side in one table: the direct sum of their matrices.
 #![tactic(auto)]
+
 ghost use Rattle.std.specs.Prelude.{◌≡◌, ℕ, ◌+◌, ◌^◌, ◌≤◌, ◌<◌, length};
 ghost use Rattle.rows.specs.Row.{width};
 ghost use Rattle.rows.specs.Table.{blocks, size, at};

@@ -1,6 +1,7 @@
 // Elimination by Gauss and Jordan over GF(2), indexed by pivot, in a lent basis: block 0 has the basis row of each pivot, block 1 the rows
 // found. Where the coefficients are kept, block 2 has for each pivot the rows found that make its basis row.
 #![tactic(auto)]
+
 ghost use Rattle.std.specs.Prelude.{◌≡◌, Bool, true, ℕ, ◌+◌, ◌^◌, ◌≤◌, ◌<◌};
 ghost use Rattle.std.specs.Int.Bits.{bit_xor, bit_or};
 ghost use Rattle.automata.specs.Mask.{bit_of};

@@ -15,7 +15,7 @@ use Rattle.automata.specs.Fields.{rows_of, fields}
 use Rattle.automata.proofs.Mask.{mask_lt, mask_bit, mask_of_bits}
 use Rattle.automata.proofs.Fields.{rows_at_lem, rows_length, rows_same}
 use Rattle.record.specs.Bytes.{number, bytes_of, all_bytes, AllBelow}
-use Rattle.record.specs.Record.{version, max_states, max_letters, row_bytes, initial_at, final_at, rows_at, length_of, states_of, letters_of, row_at, head_of, encode, automaton_of, WellFormed}
+use Rattle.record.specs.Record.{max_states, max_letters, row_bytes, initial_at, final_at, rows_at, length_of, states_of, letters_of, row_at, head_of, encode, automaton_of, WellFormed}
 use Rattle.record.proofs.Bytes.{number_2, length_all_bytes, bytes_of_below, number_written, bytes_of_number, all_bytes_numbers, numbers}
 use Rattle.record.proofs.RowList.{rows_flat, row_lt, below_append, rows_below}
 use Rattle.record.proofs.Refusals.{Passed, good_check, check_good}

@@ -1,5 +1,6 @@
 // The record: its check, refusals 1 to 7.
 #![tactic(auto)]
+
 ghost use Rattle.std.specs.Prelude.{◌≡◌, ℕ, ◌+◌, ◌*◌, ◌%◌, ◌≤◌, ◌<◌, ◌^◌, length};
 ghost use Rattle.rows.specs.Row.{mask};
 ghost use Rattle.record.specs.Bytes.{number};

@@ -1,5 +1,6 @@
 // Where the rows of a search came from: a lent trail of one earlier row and one letter for each row, and the word of a row along it.
 #![tactic(auto)]
+
 ghost use Rattle.std.specs.Prelude.{◌≡◌, ◌++◌, ◌≤◌, ◌<◌, length, drop};
 ghost use Rattle.rows.specs.Row.{width};
 ghost use Rattle.rows.specs.Table.{blocks};

@@ -1,6 +1,7 @@
 // The transposition of the matrices of a table, by exchanging bits of the row's number with bits of the place. The bit at place k of
 // row r goes to place r of row k, so r and k trade all their bits: stage b trades bit b, for all the rows of a block.
 #![tactic(auto)]
+
 ghost use Rattle.std.specs.Prelude.{◌≡◌, false, ℕ, ◌+◌, ◌^◌, ◌≤◌, ◌<◌, length};
 ghost use Rattle.automata.specs.Mask.{bit_of};
 ghost use Rattle.rows.specs.Row.{width, levels, mask, stripes};

@@ -1,6 +1,7 @@
 // A triangular basis over GF(2) in a lent slice: where q is a pivot, the row at place q has q as its highest bit. It tells whether a row is
 // an xor of rows seen before; it keeps neither those rows nor which of them make one.
 #![tactic(auto)]
+
 ghost use Rattle.std.specs.Prelude.{◌≡◌, ◌+◌, ◌^◌, ◌≤◌, ◌<◌, length, get_or, set};
 ghost use Rattle.rows.specs.Row.{width, mask};
 ghost use Rattle.triangular.specs.Triangular.{Triangular, Inserted};

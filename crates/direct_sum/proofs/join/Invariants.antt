@@ -1,12 +1,8 @@
 -- `join`: the blocks below l have the rows of both.
-use mathlib.Core.Path.{◌≡◌}
 use Prim.Native.Nat.{◌+◌, ◌-◌, ◌≤◌}
-use native.Mathlib.Omega.{arith}
 use Rattle.rows.specs.Table.{at}
 use Rattle.rows.specs.Beside.{beside}
 use Rattle.direct_sum.specs.Filled.{ChangedUpTo}
-use Rattle.direct_sum.proofs.Changing.{up_to_start, up_to_end}
-use Rattle.direct_sum.proofs.SumLaws.{besides_step}
 use Rattle.direct_sum.proofs.join.Given as goal
 
 abbrev pub invariant-loop-l : goal.invariant-loop-l

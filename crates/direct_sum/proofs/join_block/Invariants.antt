@@ -1,11 +1,6 @@
 -- `join_block`: the first j rows of the second stand after those of the first.
-use mathlib.Core.Path.{◌≡◌, sym, ap, subst, ◌∙◌}
-use Prim.Native.Nat.{◌-◌, ◌*◌, ◌^◌, ◌≤◌, ◌<◌}
-use native.Mathlib.Omega.{arith}
-use Rattle.rows.specs.Row.{mask}
+use Prim.Native.Nat.{◌-◌, ◌≤◌}
 use Rattle.direct_sum.specs.Filled.{Joined}
-use Rattle.rows.proofs.BesideLaws.{moved_fits}
-use Rattle.direct_sum.proofs.SumLaws.{joined_start, joined_step}
 use Rattle.direct_sum.proofs.join_block.Given as goal
 
 abbrev pub invariant-loop-j : goal.invariant-loop-j

@@ -16,8 +16,8 @@ among c =
     let s = c in
     let u = c.span-k in
     elim s.if-stride-k.branch [
-      then-stride-k w ↦ (omega arith, λ j h e. omega (arith, s.requires.1))
-    | else-stride-k w ↦ (omega arith, λ j h e. subst (λ k. j < k) (sym w.k-is) (bit_below u.result u.ensures.1 j e))
+      | then-stride-k w ↦ (omega arith, λ j h e. omega (arith, s.requires.1))
+      | else-stride-k w ↦ (omega arith, λ j h e. subst (λ k. j < k) (sym w.k-is) (bit_below u.result u.ensures.1 j e))
     ]
 
 pub fold-requires : goal.fold-requires

@@ -1,15 +1,10 @@
 -- `all_fields`: no field passed is more than what was gathered.
-use mathlib.Core.Path.{◌≡◌, sym, ap, subst, ◌∙◌}
+use mathlib.Core.Path.{◌≡◌}
 use Prim.Native.Nat.{ℕ, ◌+◌, ◌-◌, ◌*◌, ◌≤◌, ◌<◌}
-use native.Mathlib.Nat.{not-suc-le-zero, le_trans}
-use native.Mathlib.Numerals.{add-one}
-use native.Mathlib.Omega.{arith}
-use Rattle.automata.proofs.Below.{up_to}
 use Rattle.rows.specs.Row.{mask}
-use Rattle.rows.proofs.BitLaws.{or_ge_l, or_ge_r}
 use Rattle.record.specs.Bytes.{number}
 use Rattle.record.specs.Record.{row_bytes, initial_at}
-use Rattle.record.proofs.Refusals.{passed, passed_next}
+use Rattle.record.proofs.Refusals.{passed}
 use Rattle.record.proofs.all_fields.Given as goal
 
 abbrev pub invariant-loop-p : goal.invariant-loop-p

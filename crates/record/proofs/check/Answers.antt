@@ -5,7 +5,6 @@ use native.Mathlib.Omega.{arith}
 use Rattle.record.specs.Record.{front_of}
 use Rattle.record.specs.declared.Checked.TheVariants.{Good, Refused}
 use Rattle.record.proofs.Refusals.{good_front, front_met, length_met, fields_met, area}
-use borrow.Author.Rules.{rules}
 use Rattle.record.proofs.check.Goals.{After-size-a, In-Good}
 use Rattle.record.proofs.check.Goals as goal
 

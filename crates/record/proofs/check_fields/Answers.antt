@@ -1,7 +1,6 @@
 -- `check_fields`: where all bits together pass, each field passes.
 use mathlib.Core.Path.{sym, ◌∙◌}
 use native.Mathlib.Nat.{lt_of_le_of_lt}
-use borrow.Author.Rules.{rules}
 use borrow.Author.Tests.{ltb-true}
 use Rattle.record.specs.Record.{row_bytes, initial_at}
 use Rattle.record.proofs.Refusals.{good_stray}

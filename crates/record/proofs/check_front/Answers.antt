@@ -3,7 +3,6 @@ use mathlib.Core.Path.{◌∙◌}
 use native.Mathlib.Omega.{arith}
 use Rattle.record.proofs.Bytes.{number_2}
 use Rattle.record.proofs.Refusals.{short_met, mark₀_met, mark₁_met, mark₂_met, version_met, states_met, no_letter_met, letters_met, front_pass}
-use borrow.Author.Rules.{rules}
 use Rattle.record.proofs.check_front.Goals as goal
 
 pub returns-then-len-lt-HEADER : goal.returns-then-len-lt-HEADER

@@ -2,7 +2,6 @@
 use mathlib.Core.Path.{◌∙◌}
 use native.Mathlib.Omega.{arith}
 use Rattle.record.proofs.Bytes.{number_4}
-use borrow.Author.Rules.{rules}
 use Rattle.record.proofs.field_at.Goals as goal
 
 pub returns : goal.returns

@@ -1,11 +1,9 @@
 -- `find_stray`: what is left of row 7, from the field at hand, decides the whole.
 use native.Mathlib.Nat.{sub-zero}
-use mathlib.Core.Path.{◌≡◌, sym, ◌∙◌}
-use Prim.Native.Nat.{◌+◌, ◌-◌, ◌*◌, ◌≤◌}
+use mathlib.Core.Path.{sym, ◌∙◌}
 use native.Mathlib.Omega.{arith}
-use borrow.Author.Tests.{ltb-true, ltb-false, not-true, not-false}
-use Rattle.record.specs.Record.{row_bytes, initial_at, stray_from}
-use Rattle.record.proofs.Refusals.{passed, passed_next, stray_met, stray_pass, stray_done}
+use borrow.Author.Tests.{ltb-true, ltb-false}
+use Rattle.record.proofs.Refusals.{passed_next, stray_met, stray_pass, stray_done}
 use Rattle.record.proofs.find_stray.Goals as goal
 
 pub overflow_mul-end : goal.overflow_mul-end

@@ -1,11 +1,8 @@
 -- `find_stray`: what is left of row 7, from the field at hand, decides the whole.
-use native.Mathlib.Nat.{sub-zero}
-use mathlib.Core.Path.{◌≡◌, sym, ◌∙◌}
+use mathlib.Core.Path.{◌≡◌}
 use Prim.Native.Nat.{◌+◌, ◌-◌, ◌*◌, ◌≤◌}
-use native.Mathlib.Omega.{arith}
-use borrow.Author.Tests.{ltb-true, ltb-false, not-true, not-false}
 use Rattle.record.specs.Record.{row_bytes, initial_at, stray_from}
-use Rattle.record.proofs.Refusals.{passed, passed_next, stray_met, stray_pass, stray_done}
+use Rattle.record.proofs.Refusals.{passed}
 use Rattle.record.proofs.find_stray.Given as goal
 
 abbrev pub invariant-loop-place : goal.invariant-loop-place

@@ -1,7 +1,6 @@
 -- `length_of`: there are at most 256 rows, so the length fits.
 use native.Mathlib.Omega.{arith}
 use Rattle.record.proofs.Refusals.{area}
-use borrow.Author.Rules.{rules}
 use Rattle.record.proofs.length_of.Goals as goal
 
 pub overflow_mul-result : goal.overflow_mul-result

@@ -2,7 +2,6 @@
 use mathlib.Core.Path.{◌∙◌}
 use native.Mathlib.Omega.{arith}
 use Rattle.record.proofs.Refusals.{good_front}
-use borrow.Author.Rules.{rules}
 use Rattle.record.proofs.need.Goals as goal
 
 pub bounds-bytes-5 : goal.bounds-bytes-5

@@ -1,5 +1,4 @@
 -- `refused`: by cases on what the check found.
-use borrow.Author.Rules.{rules}
 use Rattle.record.proofs.refused.Goals as goal
 
 pub returns-in-Refused : goal.returns-in-Refused

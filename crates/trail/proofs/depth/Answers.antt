@@ -1,6 +1,6 @@
 -- `depth`: n letters are counted, and the word of row r has the others.
 use mathlib.Core.Path.{◌≡◌}
-use Prim.Native.Nat.{◌+◌, ◌≤◌, ◌<◌}
+use Prim.Native.Nat.{◌+◌, ◌<◌}
 use native.Mathlib.Omega.{arith}
 use Rattle.trail.proofs.TraceLaws.{depth, depth_child}
 use Rattle.trail.proofs.depth.Goals.{After-from-r}

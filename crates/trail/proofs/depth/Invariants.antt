@@ -1,8 +1,7 @@
 -- `depth`: n letters are counted, and the word of row r has the others.
 use mathlib.Core.Path.{◌≡◌}
-use Prim.Native.Nat.{◌+◌, ◌≤◌, ◌<◌}
-use native.Mathlib.Omega.{arith}
-use Rattle.trail.proofs.TraceLaws.{depth, depth_child}
+use Prim.Native.Nat.{◌+◌, ◌≤◌}
+use Rattle.trail.proofs.TraceLaws.{depth}
 use Rattle.trail.proofs.depth.Given as goal
 
 abbrev pub invariant-loop-r : goal.invariant-loop-r

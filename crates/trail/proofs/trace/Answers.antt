@@ -5,7 +5,7 @@ use native.Mathlib.Omega.{arith}
 use lib.ListN.{length}
 use Rattle.rows.specs.Row.{width}
 use Rattle.trail.specs.Trail.{by_in}
-use Rattle.trail.proofs.TraceLaws.{depth_child, Writing, writing_start, writing_step, writing_end}
+use Rattle.trail.proofs.TraceLaws.{depth_child, writing_start, writing_step, writing_end}
 use Rattle.trail.proofs.trace.Goals.{In-loop-r}
 use Rattle.trail.proofs.trace.Goals as goal
 

@@ -1,11 +1,5 @@
 -- `trace`: the letters from p on are written, and the word of row r is what comes before.
-use mathlib.Core.Path.{◌≡◌}
-use Prim.Native.Nat.{◌≤◌, ◌<◌}
-use native.Mathlib.Omega.{arith}
-use lib.ListN.{length}
-use Rattle.rows.specs.Row.{width}
-use Rattle.trail.specs.Trail.{by_in}
-use Rattle.trail.proofs.TraceLaws.{depth_child, Writing, writing_start, writing_step, writing_end}
+use Rattle.trail.proofs.TraceLaws.{Writing}
 use Rattle.trail.proofs.trace.Given as goal
 
 abbrev pub invariant-loop-r : goal.invariant-loop-r

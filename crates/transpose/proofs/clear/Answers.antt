@@ -1,11 +1,9 @@
 -- `clear`: the rows from n up to i have no bit, those below n are as they were.
 use mathlib.Core.Path.{◌≡◌, sym, subst}
-use Prim.Native.Nat.{◌-◌, ◌^◌, ◌≤◌}
+use Prim.Native.Nat.{◌^◌, ◌≤◌}
 use native.Mathlib.Omega.{arith}
 use lib.Pow.{pow_mono}
 use Rattle.rows.specs.Row.{width, levels, mask}
-use Rattle.rows.specs.Table.{row}
-use Rattle.transpose.specs.Exchange.{padded, HasRows, OnlyBlock}
 use Rattle.transpose.proofs.BlockLaws.{only_start, clear_start, clear_step}
 use Rattle.transpose.proofs.clear.Goals.{After-power-m}
 use Rattle.transpose.proofs.clear.Goals as goal

@@ -1,12 +1,7 @@
 -- `clear`: the rows from n up to i have no bit, those below n are as they were.
-use mathlib.Core.Path.{◌≡◌, sym, subst}
-use Prim.Native.Nat.{◌-◌, ◌^◌, ◌≤◌}
-use native.Mathlib.Omega.{arith}
-use lib.Pow.{pow_mono}
-use Rattle.rows.specs.Row.{width, levels, mask}
+use Prim.Native.Nat.{◌-◌, ◌≤◌}
 use Rattle.rows.specs.Table.{row}
 use Rattle.transpose.specs.Exchange.{padded, HasRows, OnlyBlock}
-use Rattle.transpose.proofs.BlockLaws.{only_start, clear_start, clear_step}
 use Rattle.transpose.proofs.clear.Given as goal
 
 abbrev pub invariant-loop-i : goal.invariant-loop-i

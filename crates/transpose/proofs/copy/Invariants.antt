@@ -1,9 +1,6 @@
 -- `copy`: the first l blocks are copied.
-use mathlib.Core.Path.{◌≡◌}
 use Prim.Native.Nat.{◌-◌, ◌≤◌}
-use native.Mathlib.Omega.{arith}
 use Rattle.transpose.specs.Exchange.{Copied}
-use Rattle.transpose.proofs.CopyLaws.{copied_start, copied_step}
 use Rattle.transpose.proofs.copy.Given as goal
 
 abbrev pub invariant-loop-l : goal.invariant-loop-l

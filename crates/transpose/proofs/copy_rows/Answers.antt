@@ -1,11 +1,8 @@
 -- `copy_rows`: the rows below i are copied.
 use mathlib.Core.Path.{◌≡◌}
-use Prim.Native.Nat.{ℕ, ◌-◌, ◌≤◌, ◌<◌}
 use native.Mathlib.Nat.{not-suc-le-zero}
 use native.Mathlib.Omega.{arith}
 use Rattle.rows.specs.Row.{mask}
-use Rattle.rows.specs.Table.{at}
-use Rattle.transpose.specs.Exchange.{OnlyBlock}
 use Rattle.transpose.proofs.BlockLaws.{only_start}
 use Rattle.transpose.proofs.CopyLaws.{copy_step}
 use Rattle.transpose.proofs.copy_rows.Goals as goal

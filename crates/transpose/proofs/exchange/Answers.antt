@@ -3,7 +3,6 @@ use mathlib.Core.Path.{◌≡◌, subst}
 use mathlib.Core.List.{List}
 use Prim.Native.Nat.{ℕ, ◌^◌}
 use native.Mathlib.Omega.{arith}
-use borrow.Author.Rules.{rules}
 use Rattle.rows.specs.Table.{row}
 use Rattle.transpose.specs.Exchange.{exchanged, HasRows, OnlyBlock}
 use Rattle.transpose.proofs.exchange.Goals as goal

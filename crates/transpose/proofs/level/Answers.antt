@@ -1,5 +1,5 @@
 -- `level`: while 2 ^ w is below n, w is below the number of levels.
-use Prim.Native.Nat.{◌-◌, ◌≤◌, ◌<◌}
+use Prim.Native.Nat.{◌<◌}
 use native.Mathlib.Nat.{lt_of_not-le}
 use native.Mathlib.Omega.{arith}
 use lib.Pow.{pow_mono}

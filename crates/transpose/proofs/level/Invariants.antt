@@ -1,8 +1,5 @@
 -- `level`: while 2 ^ w is below n, w is below the number of levels.
-use Prim.Native.Nat.{◌-◌, ◌≤◌, ◌<◌}
-use native.Mathlib.Nat.{lt_of_not-le}
-use native.Mathlib.Omega.{arith}
-use lib.Pow.{pow_mono}
+use Prim.Native.Nat.{◌-◌, ◌≤◌}
 use Rattle.rows.specs.Row.{levels}
 use Rattle.transpose.proofs.level.Given as goal
 

@@ -1,7 +1,6 @@
 -- `power` loses no bit of the 64 that a usize has.
 use native.Mathlib.Omega.{arith}
 use Rattle.rows.proofs.BitLaws.{unit_mask}
-use borrow.Author.Rules.{rules}
 use Rattle.transpose.proofs.power.Goals as goal
 
 pub returns : goal.returns

@@ -1,16 +1,8 @@
 -- `stage`: the pairs whose lower row is below r have exchanged bit b, and r is where a run starts.
-use mathlib.Core.Path.{◌≡◌, sym, ap, subst, ◌∙◌}
-use mathlib.Core.Bool.{true, false}
-use Prim.Native.Nat.{ℕ, suc, ◌+◌, ◌-◌, ◌*◌, ◌^◌, ◌≤◌, ◌<◌, zero-le}
-use native.Mathlib.Nat.{zero-mul}
-use native.Mathlib.Omega.{arith}
-use lib.Pow.{pow_mono, pow_pos}
-use Rattle.automata.specs.Mask.{bit_of}
-use Rattle.rows.specs.Row.{width, levels}
+use mathlib.Core.Path.{◌≡◌}
+use Prim.Native.Nat.{ℕ, suc, ◌-◌, ◌*◌, ◌^◌, ◌≤◌}
 use Rattle.rows.specs.Table.{row}
 use Rattle.transpose.specs.Exchange.{staged, HasRows, OnlyBlock}
-use Rattle.transpose.proofs.BlockLaws.{only_start, only_then}
-use Rattle.transpose.proofs.StageLaws.{stage_start, stage_run, stage_end, run_clear, run_set, run_next, run_room}
 use Rattle.transpose.proofs.stage.Given as goal
 
 abbrev pub invariant-loop-r : goal.invariant-loop-r

@@ -11,7 +11,6 @@ use Rattle.transpose.specs.Exchange.{flip}
 use Rattle.transpose.proofs.FlipLaws.{flip_lt, flip_add}
 use Rattle.transpose.proofs.SwapLaws.{difference, difference_fits}
 use Rattle.transpose.proofs.StageLaws.{swap_stored}
-use borrow.Author.Rules.{rules}
 use Rattle.transpose.proofs.swap.Goals.{After-and-d, After-power-s}
 use Rattle.transpose.proofs.swap.Goals as goal
 

@@ -1,14 +1,8 @@
 -- `swap_run`: the pairs whose lower row is from q to r - 1 have exchanged bit b.
-use mathlib.Core.Path.{◌≡◌, sym, subst}
-use Prim.Native.Nat.{◌+◌, ◌-◌, ◌^◌, ◌≤◌, ◌<◌}
-use native.Mathlib.Omega.{arith}
-use Rattle.automata.specs.Mask.{bit_of}
-use mathlib.Core.Bool.{false}
+use Prim.Native.Nat.{◌+◌, ◌-◌, ◌^◌, ◌≤◌}
 use Rattle.rows.specs.Row.{width}
 use Rattle.rows.specs.Table.{row}
 use Rattle.transpose.specs.Exchange.{staged, HasRows, OnlyBlock}
-use Rattle.transpose.proofs.BlockLaws.{only_start, only_then}
-use Rattle.transpose.proofs.StageLaws.{stage_start, stage_step}
 use Rattle.transpose.proofs.swap_run.Given as goal
 
 abbrev pub invariant-loop-r : goal.invariant-loop-r

@@ -1,9 +1,9 @@
 -- `transpose`: the first l blocks are transposed, the others are as they were.
 use mathlib.Core.Path.{◌≡◌}
-use Prim.Native.Nat.{◌-◌, ◌^◌, ◌≤◌}
+use Prim.Native.Nat.{◌^◌}
 use native.Mathlib.Omega.{arith}
 use Rattle.transpose.proofs.BlockLaws.{cleared_lt}
-use Rattle.transpose.proofs.TurnLaws.{Turning, turning_start, turning_low, turning_step}
+use Rattle.transpose.proofs.TurnLaws.{turning_start, turning_low, turning_step}
 use Rattle.transpose.proofs.transpose.Goals as goal
 
 pub level-w-requires : goal.level-w-requires

@@ -1,9 +1,6 @@
 -- `transpose`: the first l blocks are transposed, the others are as they were.
-use mathlib.Core.Path.{◌≡◌}
-use Prim.Native.Nat.{◌-◌, ◌^◌, ◌≤◌}
-use native.Mathlib.Omega.{arith}
-use Rattle.transpose.proofs.BlockLaws.{cleared_lt}
-use Rattle.transpose.proofs.TurnLaws.{Turning, turning_start, turning_low, turning_step}
+use Prim.Native.Nat.{◌-◌, ◌≤◌}
+use Rattle.transpose.proofs.TurnLaws.{Turning}
 use Rattle.transpose.proofs.transpose.Given as goal
 
 abbrev pub invariant-loop-l : goal.invariant-loop-l

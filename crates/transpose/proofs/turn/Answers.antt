@@ -1,9 +1,9 @@
 -- `turn`: the bits from b on are exchanged, so none at b = w, and all at b = 0.
 use mathlib.Core.Path.{◌≡◌, sym, subst}
-use Prim.Native.Nat.{suc, ◌-◌, ◌^◌, ◌≤◌}
+use Prim.Native.Nat.{suc, ◌-◌, ◌^◌}
 use native.Mathlib.Omega.{arith}
 use Rattle.rows.specs.Table.{row}
-use Rattle.transpose.specs.Exchange.{padded, OnlyBlock}
+use Rattle.transpose.specs.Exchange.{padded}
 use Rattle.transpose.proofs.BlockLaws.{only_start, only_then}
 use Rattle.transpose.proofs.TurnLaws.{Turned, turn_start, turn_step, turn_end}
 use Rattle.transpose.proofs.turn.Goals as goal

@@ -1,6 +1,5 @@
 -- `put` sets the number that stands for the row.
 use mathlib.Core.Path.{refl}
-use borrow.Author.Rules.{rules}
 use Rattle.rows.specs.Row.{mask}
 use Rattle.triangular.proofs.put.Goals as goal
 

@@ -1,0 +1,32 @@
+-- `give`: a refusal, or what `codec::write` does with the entry that was loaded.
+use mathlib.Core.Path.{◌∙◌}
+use native.Mathlib.Omega.{arith}
+use lib.ListN.{length}
+use borrow.Author.Rules.{rules}
+use Rattle.catalogue.proofs.Records.{record_bounds, encode_loaded}
+use Rattle.catalogue.proofs.Giving.{number_met, number_passes, promises}
+use Rattle.catalogue.proofs.give.Goals as goal
+
+pub returns-then-number-gt-LAST : goal.returns-then-number-gt-LAST
+returns-then-number-gt-LAST c =
+    let a = c.args in
+    let room = length a.out.now in
+    let e = number_met a.number room c.if-number-gt-LAST.true in
+    promises a.number a.out.now a.out.now _ (rw e) (rw e)
+
+pub write-requires : goal.write-requires
+write-requires c =
+    let h = c.load-m.ensures in
+    let b = record_bounds _ c.if-number-gt-LAST.false in
+    (h.valid, omega (arith, h.states, b.states))
+
+pub returns : goal.returns
+returns c =
+    let w = c.write in
+    let l = c.load-m in
+    let s = c in
+    let a = s.args in
+    let room = length a.out.now in
+    let e = number_passes a.number room s.if-number-gt-LAST.false in
+    let same = encode_loaded a.number s.if-number-gt-LAST.false _ l.result l.ensures in
+    promises a.number a.out.now w.new.buf w.result (rw e (w.ensures.answer ∙ rw same)) (rw e (w.ensures.buffer ∙ rw same))
