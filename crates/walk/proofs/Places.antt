@@ -20,12 +20,12 @@ use Rattle.walk.specs.Walk.{past_part, past_of, place_of}
 
 module _ (s : List ℕ) (index at : ℕ) where
   -- What is no whole record ends the marking.
-  pub past_stops : (p : Part) → p ≡ part_at s at → OneOf (1 ∷ 2 ∷ []) (tag_of D.the_type p) → length s ≡ past_of s index at
+  pub past_stops : (p : Part) → p ≡ part_at s at → ((x y : ℕ) → p ≡ Whole x y → ⊥) → length s ≡ past_of s index at
   unfolding past_of
   past_stops p e h = stops p h ∙ ap (past_part s index) e
     where
-      stops : (p : Part) → OneOf (1 ∷ 2 ∷ []) (tag_of D.the_type p) → length s ≡ past_part s index p
-      stops (Whole start next) h = absurd (⊎_elim (λ e. omega arith) (λ e. omega arith) h)
+      stops : (p : Part) → ((x y : ℕ) → p ≡ Whole x y → ⊥) → length s ≡ past_part s index p
+      stops (Whole start next) h = absurd (h start next refl)
       stops (Refused number place) h = refl
       stops End h = refl
 

@@ -3,6 +3,7 @@ use mathlib.Core.Path.{◌∙◌}
 use native.Mathlib.Omega.{arith}
 use lib.ListN.{length}
 use borrow.Author.Rules.{rules}
+use Rattle.record.specs.declared.Written.TheVariants.{Refused}
 use Rattle.catalogue.proofs.Records.{record_bounds, encode_loaded}
 use Rattle.catalogue.proofs.Giving.{number_met, number_passes, promises}
 use Rattle.catalogue.proofs.give.Goals as goal
@@ -12,7 +13,8 @@ returns-then-number-gt-LAST c =
     let a = c.args in
     let room = length a.out.now in
     let e = number_met a.number room c.if-number-gt-LAST.true in
-    promises a.number a.out.now a.out.now _ (rw e) (rw e)
+    let p = promises a.number a.out.now a.out.now (Refused 13 0 a.number) (rw e) (rw e) in
+    record { answer = p.0; buffer = p.1.0; claims = p.1.1 }
 
 pub write-requires : goal.write-requires
 write-requires c =
@@ -29,4 +31,5 @@ returns c =
     let room = length a.out.now in
     let e = number_passes a.number room s.if-number-gt-LAST.false in
     let same = encode_loaded a.number s.if-number-gt-LAST.false _ l.result l.ensures in
-    promises a.number a.out.now w.new.buf w.result (rw e (w.ensures.answer ∙ rw same)) (rw e (w.ensures.buffer ∙ rw same))
+    let p = promises a.number a.out.now w.new.buf w.result (rw e (w.ensures.answer ∙ rw same)) (rw e (w.ensures.buffer ∙ rw same)) in
+    record { answer = p.0; buffer = p.1.0; claims = p.1.1 }

@@ -1,0 +1,6 @@
+-- `refuse`: case by case.
+use borrow.Author.Rules.{rules}
+use Rattle.compare.proofs.refuse.Goals as goal
+
+pub returns-in-Refused : goal.returns-in-Refused
+returns-in-Refused c = rw c.in-Refused.is

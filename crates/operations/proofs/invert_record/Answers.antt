@@ -1,0 +1,33 @@
+-- `invert_record`: the second automaton accepts every word.
+use mathlib.Core.Path.{◌≡◌, refl, sym, subst}
+use native.Mathlib.Omega.{arith}
+use Rattle.rows.specs.Row.{mask}
+use Rattle.rows.specs.Machine.{Bounded}
+use Rattle.record.proofs.Refusals.{good_check}
+use Rattle.operations.proofs.BuiltLaws.{all_bounded, complement_held}
+use borrow.Author.Rules.{rules}
+use Rattle.operations.proofs.invert_record.Goals as goal
+
+pub add-requires : goal.add-requires
+add-requires c =
+    let s = c in
+    let r = c.read-g in
+    let g = r.ensures in
+    let one = c.unit-one in
+    let u = c.All-words in
+    let e : mask one.result ≡ 1 = one.ensures in
+    let f = (good_check _ s.requires.0).front in (
+      g.valid,
+      subst (λ x. Bounded r.result.letters u.new.0 1 x x) (sym e) (all_bounded r.result.letters u.new.0 g.valid.letters u.ensures),
+      refl,
+      omega (arith, g.states, f.states),
+      omega (arith, g.states, f.states),
+    )
+
+pub returns : goal.returns
+returns c =
+    let s = c in
+    let g = c.read-g in
+    let one = c.unit-one in
+    let u = c.All-words in
+    complement_held s.args.bytes.now g.new.t u.new.0 c.add.new.t g.result c.add.result (mask one.result) one.ensures g.ensures u.ensures c.add.ensures

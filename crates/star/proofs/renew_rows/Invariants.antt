@@ -1,0 +1,17 @@
+-- `renew_rows`: the rows of the letters below l are renewed.
+use mathlib.Core.Path.{◌≡◌, subst}
+use Prim.Native.Nat.{◌+◌, ◌-◌, ◌≤◌}
+use native.Mathlib.Omega.{arith}
+use Rattle.rows.specs.Row.{mask}
+use Rattle.rows.specs.Table.{at}
+use Rattle.direct_sum.specs.Filled.{ChangedUpTo}
+use Rattle.direct_sum.proofs.Changing.{up_to_start, up_to_step, up_to_end}
+use Rattle.star.specs.Renewed.{star_rows}
+use Rattle.star.proofs.RenewedLaws.{renewed_same}
+use Rattle.star.proofs.renew_rows.Given as goal
+
+abbrev pub invariant-loop-l : goal.invariant-loop-l
+invariant-loop-l l = (l.l ≤ l.a) × ChangedUpTo l.l (l.n + 1) (star_rows (at l.initial.t) l.n (mask l.i) (mask l.f)) l.initial.t l.t
+
+abbrev pub decreases-loop-l : goal.decreases-loop-l
+decreases-loop-l l = l.a - l.l
