@@ -38,7 +38,8 @@ returns-in_default c =
     let a = c.args in
     let told = c.in_default in
     let o = meet_refused a.first.now a.second.now (length a.out.now) told.field-0 told.field-1 told.field-2 (sym c.check_pair-p.ensures ∙ told.is) in
-    meet_refuses a.first.now a.second.now a.out.now told.field-0 told.field-1 told.field-2 c.refuse.result o (c.refuse.ensures ∙ ap pair_refusal told.is)
+    let p = meet_refuses a.first.now a.second.now a.out.now told.field-0 told.field-1 told.field-2 c.refuse.result o (c.refuse.ensures ∙ ap pair_refusal told.is) in
+    record { answer = p.0; buffer = p.1.0; claims = p.1.1 }
 
 pub minimal_form-g-requires : goal.minimal_form-g-requires
 minimal_form-g-requires c = ((passed (goal.at.minimal_form-g-requires c).In-Both).0, refl)
@@ -58,7 +59,8 @@ returns-then-d-gt-MAX_PRODUCT c =
     let buf = a.out.now in
     let d = h.minimal_form-g.result.states * h.minimal_form-h.result.states in
     let o = meet_over bs cs (length buf) (passed (goal.at.returns-then-d-gt-MAX_PRODUCT h).In-Both) d (dimensions (goal.at.returns-then-d-gt-MAX_PRODUCT h).After-minimal_form-h) (omega arith) in
-    meet_refuses bs cs buf 10 0 d (Refused 10 0 d) o refl
+    let p = meet_refuses bs cs buf 10 0 d (Refused 10 0 d) o refl in
+    record { answer = p.0; buffer = p.1.0; claims = p.1.1 }
 
 pub product-m-requires : goal.product-m-requires
 product-m-requires c =
@@ -90,4 +92,5 @@ returns c =
     let s = k.product-m.new.s in
     let built = meet_held (letters_of bs) g.minimal_form-g.result.letters bs cs g.minimal_form-g.new.out h.minimal_form-h.new.out s g.minimal_form-g.result h.minimal_form-h.result k.product-m.result g.minimal_form-g.ensures.0 g.minimal_form-g.ensures.1 (second (goal.at.returns h).After-minimal_form-h) k.product-m.ensures in
     let small = within bs cs (passed (goal.at.returns g).In-Both) (g.minimal_form-g.result.states * h.minimal_form-h.result.states) (dimensions (goal.at.returns h).After-minimal_form-h) (omega (arith, k.if-d-gt-MAX_PRODUCT.false)) in
-    meet_gives bs cs buf s k.product-m.result f.new.out f.result (passed (goal.at.returns g).In-Both, small) built f.ensures.answer f.ensures.buffer
+    let p = meet_gives bs cs buf s k.product-m.result f.new.out f.result (passed (goal.at.returns g).In-Both, small) built f.ensures.answer f.ensures.buffer in
+    record { answer = p.0; buffer = p.1.0; claims = p.1.1 }
