@@ -9,7 +9,7 @@ use Rattle.operations.proofs.BuiltLaws.{all_step}
 use Rattle.operations.proofs.all_words.Given as goal
 
 abbrev pub invariant-loop-l : goal.invariant-loop-l
-invariant-loop-l l = (l.l ≤ l.a) × Filled l.l 1 (λ l.l i. 1) l.t
+invariant-loop-l l = (l.l ≤ l.a) × Filled l.l 1 (λ _ _. 1) l.t
 
 abbrev pub decreases-loop-l : goal.decreases-loop-l
 decreases-loop-l l = l.a - l.l

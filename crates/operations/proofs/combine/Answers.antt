@@ -26,11 +26,13 @@ returns-then-second-eq0 c =
     let a = t.args in
     let b = c.blank in
     let m = c.combine_meant in
-    subst (Promises a.k a.first.now a.out.now m.new.out m.result) (meant_blank (letters_of a.first.now) b.new.out a.second.now (omega (arith, t.if-second-eq0.true)) b.ensures) m.ensures
+    let p = subst (Promises a.k a.first.now a.out.now m.new.out m.result) (meant_blank (letters_of a.first.now) b.new.out a.second.now (omega (arith, t.if-second-eq0.true)) b.ensures) (m.ensures.answer, (m.ensures.buffer, m.ensures.claims)) in
+    record { answer = p.0; buffer = p.1.0; claims = p.1.1 }
 
 pub returns : goal.returns
 returns c =
     let e = c in
     let a = e.args in
     let m = c.combine_meant-2 in
-    subst (Promises a.k a.first.now a.out.now m.new.out m.result) (meant_itself (letters_of a.first.now) a.second.now (λ none. omega (arith, e.if-second-eq0.false))) m.ensures
+    let p = subst (Promises a.k a.first.now a.out.now m.new.out m.result) (meant_itself (letters_of a.first.now) a.second.now (λ none. omega (arith, e.if-second-eq0.false))) (m.ensures.answer, (m.ensures.buffer, m.ensures.claims)) in
+    record { answer = p.0; buffer = p.1.0; claims = p.1.1 }

@@ -18,7 +18,8 @@ returns-in_default c =
     let a = c.args in
     let told = c.in_default in
     let o = binary_refused a.k a.first.now a.second.now (length a.out.now) told.field-0 told.field-1 told.field-2 (sym c.check_pair-p.ensures ∙ told.is) in
-    (binary_service a.k a.first.now a.second.now a.out.now).0 told.field-0 told.field-1 told.field-2 c.refuse.result o (c.refuse.ensures ∙ ap pair_refusal told.is)
+    let p = (binary_service a.k a.first.now a.second.now a.out.now).0 told.field-0 told.field-1 told.field-2 c.refuse.result o (c.refuse.ensures ∙ ap pair_refusal told.is) in
+    record { answer = p.0; buffer = p.1.0; claims = p.1.1 }
 
 pub join_records-m-requires : goal.join_records-m-requires
 join_records-m-requires c = (passed (goal.at.join_records-m-requires c).In-Both, refl, refl)
@@ -28,4 +29,5 @@ returns c =
     let b = c in
     let a = b.args in
     let f = c.finish in
-    (binary_service a.k a.first.now a.second.now a.out.now).1 b.join_records-m.new.s b.join_records-m.result f.new.out f.result (passed (goal.at.returns b).In-Both) b.join_records-m.ensures.0 f.ensures.answer f.ensures.buffer
+    let p = (binary_service a.k a.first.now a.second.now a.out.now).1 b.join_records-m.new.s b.join_records-m.result f.new.out f.result (passed (goal.at.returns b).In-Both) b.join_records-m.ensures.0 f.ensures.answer f.ensures.buffer in
+    record { answer = p.0; buffer = p.1.0; claims = p.1.1 }

@@ -14,11 +14,11 @@ add-requires c =
     let r = c.read-g in
     let g = r.ensures in
     let one = c.unit-one in
-    let u = c.All-words in
+    let u = c.all_words in
     let e : mask one.result ≡ 1 = one.ensures in
     let f = (good_check _ s.requires.0).front in (
       g.valid,
-      subst (λ x. Bounded r.result.letters u.new.0 1 x x) (sym e) (all_bounded r.result.letters u.new.0 g.valid.letters u.ensures),
+      subst (λ x. Bounded r.result.letters u.new.t 1 x x) (sym e) (all_bounded r.result.letters u.new.t g.valid.letters u.ensures),
       refl,
       omega (arith, g.states, f.states),
       omega (arith, g.states, f.states),
@@ -29,5 +29,5 @@ returns c =
     let s = c in
     let g = c.read-g in
     let one = c.unit-one in
-    let u = c.All-words in
-    complement_held s.args.bytes.now g.new.t u.new.0 c.add.new.t g.result c.add.result (mask one.result) one.ensures g.ensures u.ensures c.add.ensures
+    let u = c.all_words in
+    complement_held s.args.bytes.now g.new.t u.new.t c.add.new.t g.result c.add.result (mask one.result) one.ensures g.ensures u.ensures c.add.ensures

@@ -17,7 +17,8 @@ returns-in_default c =
     let a = c.args in
     let told = c.in_default in
     let o = unary_refused a.bytes.now a.k (length a.out.now) told.field-0 told.field-1 (sym c.check-c.ensures ∙ told.is) in
-    (unary_service a.bytes.now a.k a.out.now).0 told.field-0 1 told.field-1 c.refused.result o (c.refused.ensures ∙ ap (λ k. refusal_of k 1) told.is)
+    let p = (unary_service a.bytes.now a.k a.out.now).0 told.field-0 1 told.field-1 c.refused.result o (c.refused.ensures ∙ ap (λ k. refusal_of k 1) told.is) in
+    record { answer = p.0; buffer = p.1.0; claims = p.1.1 }
 
 pub build-m-requires : goal.build-m-requires
 build-m-requires c = (passed (goal.at.build-m-requires c).In-Good, refl)
@@ -27,4 +28,5 @@ returns c =
     let b = c in
     let a = b.args in
     let f = c.finish in
-    (unary_service a.bytes.now a.k a.out.now).1 b.build-m.new.s b.build-m.result f.new.out f.result (passed (goal.at.returns b).In-Good) b.build-m.ensures f.ensures.answer f.ensures.buffer
+    let p = (unary_service a.bytes.now a.k a.out.now).1 b.build-m.new.s b.build-m.result f.new.out f.result (passed (goal.at.returns b).In-Good) b.build-m.ensures f.ensures.answer f.ensures.buffer in
+    record { answer = p.0; buffer = p.1.0; claims = p.1.1 }

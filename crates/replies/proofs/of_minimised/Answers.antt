@@ -1,0 +1,11 @@
+-- `of_minimised`: case by case.
+use mathlib.Core.Path.{sym, ap, ◌∙◌}
+use Rattle.replies.specs.Reply.{of_minimised}
+use borrow.Author.Rules.{rules}
+use Rattle.replies.proofs.of_minimised.Goals as goal
+
+pub returns-in-Done : goal.returns-in-Done
+returns-in-Done c = c.grant.ensures ∙ sym (ap of_minimised c.in-Done.is)
+
+pub returns-in-Refused : goal.returns-in-Refused
+returns-in-Refused c = c.refuse.ensures ∙ sym (ap of_minimised c.in-Refused.is)
