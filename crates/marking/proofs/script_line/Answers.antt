@@ -1,0 +1,24 @@
+-- `script_line`: too long, or the line of what stands there.
+use mathlib.Core.Path.{sym}
+use native.Mathlib.Omega.{arith}
+use Rattle.lines.specs.Lines.{too_long_line}
+use Rattle.marking.proofs.Cases.{long_first, long_later, line_part}
+use Rattle.lines.proofs.Building.{begun_first, begun_line, begins_none, begins_as}
+use borrow.Author.Rules.{rules}
+use Rattle.marking.proofs.script_line.Goals as goal
+
+pub returns-then-index-eq0 : goal.returns-then-index-eq0
+returns-then-index-eq0 c =
+    let s = c in
+    begins_as (sym (long_first s.args.script.now s.args.index s.args.at (omega arith) c.if-index-eq0.true))
+    (begun_line {before = s.args.line.now} (begun_first too_long_line c.put.ensures) (omega (arith, s.requires)))
+
+pub returns-then-script-gt-MAX_SCRIPT : goal.returns-then-script-gt-MAX_SCRIPT
+returns-then-script-gt-MAX_SCRIPT c =
+    let a = c.args in
+    begins_as (sym (long_later a.script.now a.index a.at (omega arith) c.if-index-eq0.false)) (begins_none a.line.now)
+
+pub returns : goal.returns
+returns c =
+    let a = c.args in
+    begins_as (sym (line_part a.script.now a.index a.at (omega arith))) c.part_line.ensures
