@@ -1,0 +1,20 @@
+-- `nxa_complement`: the reply of what the service answers, and its numbers; its claims are of the answer that a host reads off the reply.
+use mathlib.Core.Path.{refl}
+use lib.ListN.{length}
+use Rattle.record.specs.Outcome.{answer_in}
+use Rattle.operations.specs.Operations.{complement_outcome, Complements}
+use Rattle.replies.specs.Reply.{of_written, written_in}
+use Rattle.nxa.proofs.Granted.{written_readable, told}
+use Rattle.nxa.proofs.Operations.{complement_numbers, complement_among}
+use borrow.Author.Rules.{rules}
+use Rattle.nxa.proofs.nxa_complement.Goals as goal
+
+pub returns : goal.returns
+returns c =
+    let a = c.args in
+    let bs = a.«record».now in
+    let buf = a.out.now in
+    let w = c.complement in
+    let read = written_readable complement_numbers refl (complement_outcome bs (length buf)) w.result (complement_among bs (length buf)) w.ensures.answer in
+    let t = told of_written written_in complement_numbers w.result (answer_in (complement_outcome bs) buf) c.of_written.result _ (Complements bs w.new.out) c.of_written.ensures read (w.ensures.answer, (w.ensures.buffer, w.ensures.claims)) in
+    record { reply = t.0; numbers = t.1.0; buffer = t.1.1.0; claims = t.1.1.1 }
