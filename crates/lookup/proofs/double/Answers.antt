@@ -1,9 +1,7 @@
 -- `double`: the first v are done.
 use mathlib.Core.Path.{◌≡◌}
-use Prim.Native.Nat.{◌-◌, ◌≤◌}
 use native.Mathlib.Omega.{arith}
 use Rattle.rows.specs.Row.{mask}
-use Rattle.lookup.specs.Lookup.{Doubled}
 use Rattle.lookup.proofs.LookupLaws.{doubled_none, doubled_step}
 use Rattle.lookup.proofs.double.Goals as goal
 

@@ -1,15 +1,10 @@
 -- `fill`: the groups below g are filled, and the span of p says how many there are.
-use mathlib.Core.Path.{◌≡◌, refl, ◌∙◌}
-use Prim.Native.Nat.{◌+◌, ◌-◌, ◌*◌, ◌/◌, ◌≤◌}
-use native.Mathlib.Nat.{lt_of_lt_of_le}
-use native.Mathlib.Omega.{arith}
-use borrow.Author.Rules.{rules}
+use mathlib.Core.Path.{◌≡◌}
+use Prim.Native.Nat.{◌-◌, ◌≤◌}
 use lib.ListN.{length}
-use lib.Pow.{pow_mono}
 use Rattle.rows.specs.Row.{mask}
 use Rattle.basis.specs.Basis.{cell}
 use Rattle.lookup.specs.Lookup.{chosen, Tabled}
-use Rattle.lookup.proofs.LookupLaws.{tabled_none, tabled_step}
 use Rattle.lookup.proofs.fill.Given as goal
 
 abbrev pub invariant-loop-g : goal.invariant-loop-g

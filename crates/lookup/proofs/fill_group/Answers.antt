@@ -1,5 +1,4 @@
 -- `fill_group`: the four rows of the group, chosen by the bits of p.
-use borrow.Author.Rules.{rules}
 use Rattle.rows.specs.Row.{mask}
 use Rattle.basis.specs.Basis.{cell}
 use Rattle.lookup.specs.Lookup.{chosen}

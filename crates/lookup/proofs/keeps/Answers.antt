@@ -1,15 +1,13 @@
 -- `keeps`: the rows before l are their own products.
 use mathlib.Core.Path.{◌≡◌, sym, ap, ◌∙◌}
 use mathlib.Core.Bool.{true≢false}
-use Prim.Native.Nat.{ℕ, ◌-◌, ◌*◌, ◌<◌, ◌≤◌}
+use Prim.Native.Nat.{◌*◌}
 use native.Mathlib.Nat.{not-suc-le-zero}
 use native.Mathlib.Numerals.{add-one}
 use native.Mathlib.Omega.{arith}
-use lib.ListN.{get_or}
 use Rattle.automata.proofs.Below.{up_to}
 use Rattle.rows.specs.Row.{mask}
 use Rattle.rows.specs.Product.{product}
-use Rattle.lookup.specs.Lookup.{Tabled, Kept}
 use Rattle.lookup.proofs.keeps.Goals as goal
 
 pub loop-l-init : goal.loop-l-init

@@ -1,11 +1,8 @@
 -- `times`: the groups passed have given their part of the product, and z has the bits to come.
 use mathlib.Core.Path.{◌≡◌}
 use Prim.Native.Nat.{ℕ, ◌-◌, ◌*◌, ◌/◌, ◌^◌, ◌≤◌}
-use native.Mathlib.Omega.{arith}
-use Rattle.rows.specs.Row.{mask}
 use Rattle.rows.specs.Product.{product}
 use Rattle.lookup.specs.Lookup.{Tabled}
-use Rattle.lookup.proofs.LookupLaws.{lookup_none, bits_none, low_four, lookup_step, bits_step}
 use Rattle.lookup.proofs.times.Given as goal
 
 abbrev pub invariant-loop-g : goal.invariant-loop-g

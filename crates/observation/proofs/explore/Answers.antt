@@ -3,7 +3,6 @@ use mathlib.Core.Path.{sym, subst}
 use mathlib.Core.Bool.{Bool, false}
 use Prim.Native.Nat.{ℕ}
 use native.Mathlib.Omega.{arith}
-use borrow.Author.Rules.{rules}
 use Rattle.rows.specs.Row.{width, mask}
 use Rattle.elimination.specs.Place.{BasisIn}
 use Rattle.reduction.proofs.TableSearch.{empty_basis, empty_cover}

@@ -1,17 +1,7 @@
 -- `explore_letters`: the letters below l are done; row k stays, so that the line keeps its products.
-use mathlib.Core.Path.{◌≡◌, refl, sym, ap, subst, ◌∙◌}
-use Prim.Native.Nat.{◌-◌, ◌^◌, ◌≤◌, ◌<◌}
-use native.Mathlib.Nat.{not-suc-le-zero}
-use native.Mathlib.Omega.{arith}
-use Rattle.rows.specs.Row.{width, mask}
-use Rattle.rows.specs.Table.{at}
-use Rattle.rows.specs.Product.{product}
-use Rattle.rows.proofs.ProductLaws.{product_lt}
-use Rattle.basis.specs.Basis.{cell}
-use Rattle.kernels.specs.Products.{Products}
-use Rattle.reduction.proofs.TableSearch.{found_low}
+use Prim.Native.Nat.{◌-◌, ◌≤◌}
+use Rattle.rows.specs.Row.{mask}
 use Rattle.observation.specs.Explore.{Tried, Found, Grown}
-use Rattle.observation.proofs.ExploreLaws.{grown_start, grown_on, row_step, found_bound}
 use Rattle.observation.proofs.explore_letters.Given as goal
 
 abbrev pub invariant-loop-l : goal.invariant-loop-l

@@ -1,13 +1,13 @@
 -- `column`: the first i rows are counted.
 use mathlib.Core.Path.{◌≡◌, sym, ap, subst, ◌∙◌}
 use mathlib.Core.Bool.{◌&&◌}
-use Prim.Native.Nat.{◌-◌, ◌^◌, ◌≤◌, ◌<◌}
+use Prim.Native.Nat.{◌^◌, ◌<◌}
 use native.Mathlib.Omega.{arith}
 use Rattle.automata.specs.Xor.{xor_below}
 use Rattle.automata.specs.Mask.{bit_of}
 use Rattle.rows.specs.Row.{mask}
 use Rattle.rows.proofs.BitLaws.{bit_pow, bit_when}
-use Rattle.reduction.proofs.TableSearch.{Counted, counted_start, counted_step, counted_low}
+use Rattle.reduction.proofs.TableSearch.{counted_start, counted_step, counted_low}
 use Rattle.reduction.proofs.column.Goals as goal
 
 pub none-y-requires : goal.none-y-requires

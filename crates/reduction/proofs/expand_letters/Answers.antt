@@ -1,13 +1,12 @@
 -- `expand_letters`: the letters below l are done; row k stays, so that the line keeps its products.
 use mathlib.Core.Path.{◌≡◌, refl, sym, ap, ◌∙◌}
-use Prim.Native.Nat.{◌-◌, ◌≤◌, ◌<◌}
+use Prim.Native.Nat.{◌<◌}
 use native.Mathlib.Omega.{arith}
 use Rattle.rows.specs.Row.{width, mask}
 use Rattle.rows.specs.Table.{at}
 use Rattle.rows.specs.Product.{product}
 use Rattle.basis.specs.Basis.{cell, bits}
 use Rattle.kernels.specs.Products.{Products}
-use Rattle.reduction.specs.Tables.{Searching}
 use Rattle.reduction.proofs.TableSearch.{count_bound, found_low, searching_next}
 use Rattle.reduction.proofs.expand_letters.Goals.{After-multiply, Start}
 use Rattle.reduction.proofs.expand_letters.Goals as goal

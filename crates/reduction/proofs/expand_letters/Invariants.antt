@@ -1,14 +1,9 @@
 -- `expand_letters`: the letters below l are done; row k stays, so that the line keeps its products.
-use mathlib.Core.Path.{◌≡◌, refl, sym, ap, ◌∙◌}
-use Prim.Native.Nat.{◌-◌, ◌≤◌, ◌<◌}
-use native.Mathlib.Omega.{arith}
+use mathlib.Core.Path.{◌≡◌}
+use Prim.Native.Nat.{◌-◌, ◌≤◌}
 use Rattle.rows.specs.Row.{width, mask}
-use Rattle.rows.specs.Table.{at}
-use Rattle.rows.specs.Product.{product}
-use Rattle.basis.specs.Basis.{cell, bits}
-use Rattle.kernels.specs.Products.{Products}
+use Rattle.basis.specs.Basis.{cell}
 use Rattle.reduction.specs.Tables.{Searching}
-use Rattle.reduction.proofs.TableSearch.{count_bound, found_low, searching_next}
 use Rattle.reduction.proofs.expand_letters.Given as goal
 
 abbrev pub invariant-loop-l : goal.invariant-loop-l

@@ -1,12 +1,11 @@
 -- `look_up_row`: the letters below l are done.
 use mathlib.Core.Path.{◌≡◌, refl, ◌∙◌}
-use Prim.Native.Nat.{◌-◌, ◌≤◌, ◌<◌}
+use Prim.Native.Nat.{◌<◌}
 use native.Mathlib.Omega.{arith}
 use Rattle.rows.specs.Row.{width, mask}
 use Rattle.rows.specs.Table.{at}
 use Rattle.basis.specs.Basis.{cell, bits}
 use Rattle.kernels.specs.Products.{Products}
-use Rattle.reduction.specs.Tables.{Searching}
 use Rattle.reduction.proofs.TableSearch.{count_bound, found_low, searching_next}
 use Rattle.reduction.proofs.look_up_row.Goals.{After-multiply}
 use Rattle.reduction.proofs.look_up_row.Goals as goal

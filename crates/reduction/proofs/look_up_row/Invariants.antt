@@ -1,13 +1,7 @@
 -- `look_up_row`: the letters below l are done.
-use mathlib.Core.Path.{◌≡◌, refl, ◌∙◌}
-use Prim.Native.Nat.{◌-◌, ◌≤◌, ◌<◌}
-use native.Mathlib.Omega.{arith}
-use Rattle.rows.specs.Row.{width, mask}
-use Rattle.rows.specs.Table.{at}
-use Rattle.basis.specs.Basis.{cell, bits}
-use Rattle.kernels.specs.Products.{Products}
+use Prim.Native.Nat.{◌-◌, ◌≤◌}
+use Rattle.rows.specs.Row.{mask}
 use Rattle.reduction.specs.Tables.{Searching}
-use Rattle.reduction.proofs.TableSearch.{count_bound, found_low, searching_next}
 use Rattle.reduction.proofs.look_up_row.Given as goal
 
 abbrev pub invariant-loop-l : goal.invariant-loop-l

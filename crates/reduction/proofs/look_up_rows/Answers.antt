@@ -1,10 +1,8 @@
 -- `look_up_rows`: the rows below k are done; the basis stays, so that the table is one of its coefficients.
 use mathlib.Core.Path.{◌≡◌, refl}
-use Prim.Native.Nat.{◌-◌, ◌≤◌}
 use native.Mathlib.Omega.{arith}
 use Rattle.rows.specs.Row.{width, mask}
 use Rattle.basis.specs.Basis.{bits}
-use Rattle.reduction.specs.Tables.{Searching}
 use Rattle.reduction.proofs.TableSearch.{count_bound}
 use Rattle.reduction.proofs.look_up_rows.Goals as goal
 

@@ -6,7 +6,6 @@ use Rattle.rows.specs.Row.{width, mask}
 use Rattle.basis.specs.Basis.{bits}
 use Rattle.elimination.specs.Place.{BasisIn, Placed}
 use Rattle.reduction.proofs.TableSearch.{count_bound, found_low, empty_basis, empty_cover, searching_start, start_row, searched_counts, searched_end}
-use borrow.Author.Rules.{rules}
 use Rattle.reduction.proofs.reduce.Goals.{After-place-q}
 use Rattle.reduction.proofs.reduce.Goals as goal
 

@@ -1,5 +1,5 @@
 -- `search`: the rows below k are done by every letter; the rest may be looked up, or left where only their number is of use.
-use mathlib.Core.Path.{◌≡◌, refl}
+use mathlib.Core.Path.{refl}
 use mathlib.Core.Logic.{inl, inr}
 use Prim.Native.Nat.{◌-◌, ◌*◌, ◌≤◌}
 use native.Mathlib.Nat.{mul-le-mul}
@@ -7,7 +7,6 @@ use native.Mathlib.Omega.{arith}
 use Rattle.rows.specs.Row.{width, mask}
 use Rattle.rows.specs.Table.{blocks}
 use Rattle.basis.specs.Basis.{bits}
-use Rattle.reduction.specs.Tables.{Searching}
 use Rattle.reduction.proofs.TableSearch.{count_bound}
 use Rattle.reduction.proofs.search.Goals.{At-loop-k}
 use Rattle.reduction.proofs.search.Goals as goal

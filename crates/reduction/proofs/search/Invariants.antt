@@ -1,14 +1,8 @@
 -- `search`: the rows below k are done by every letter; the rest may be looked up, or left where only their number is of use.
-use mathlib.Core.Path.{◌≡◌, refl}
-use mathlib.Core.Logic.{inl, inr}
-use Prim.Native.Nat.{◌-◌, ◌*◌, ◌≤◌}
-use native.Mathlib.Nat.{mul-le-mul}
-use native.Mathlib.Omega.{arith}
+use mathlib.Core.Path.{◌≡◌}
+use Prim.Native.Nat.{◌-◌, ◌≤◌}
 use Rattle.rows.specs.Row.{width, mask}
-use Rattle.rows.specs.Table.{blocks}
-use Rattle.basis.specs.Basis.{bits}
 use Rattle.reduction.specs.Tables.{Searching}
-use Rattle.reduction.proofs.TableSearch.{count_bound}
 use Rattle.reduction.proofs.search.Given as goal
 
 abbrev pub invariant-loop-k : goal.invariant-loop-k
