@@ -1,12 +1,12 @@
 -- Automata for the operations on languages (01: sum, meet, complement, mirror; 02, Note 2: product, star), and over more letters (Note 5).
---   sum_of A B              the two side by side, the direct sum: accepts the symmetric difference
---   meet_of A B             the product automaton on pairs of states: accepts the intersection
---   complement_of A        A beside one state that accepts every word
---   mirror_of A            the transpose, initial and final states exchanged: accepts the reversal
---   concatenation_of A B   A, and B wherever A ends a word: accepts the concatenation
---   star_of A              A and one state more: accepts the star
---   stateless              the automaton with no states: accepts no word
---   widened a A            A, which is over a letters, over any more of them: a letter that it lacks leads nowhere
+--   sum_of A B            the two side by side, the direct sum: accepts the symmetric difference
+--   meet_of A B           the product automaton on pairs of states: accepts the intersection
+--   complement_of A       A beside one state that accepts every word
+--   mirror_of A           the transpose, initial and final states exchanged: accepts the reversal
+--   concatenation_of A B  A, and B wherever A ends a word: accepts the concatenation
+--   star_of A             A and one state more: accepts the star
+--   stateless             the automaton with no states: accepts no word
+--   widened a A           A, which is over a letters, over any more of them: a letter that it lacks leads nowhere
 use Rattle.std.specs.Prelude.{Bool, true, false, ◌&&◌, cond, ℕ, ◌+◌, ◌-◌, ◌*◌, ◌/◌, ◌%◌, ltb}
 use Rattle.automata.specs.Xor.{◌⊕◌, xor_below}
 use Rattle.automata.specs.Automaton.{Automaton}

@@ -1,9 +1,9 @@
 -- Words over the letters 0 to a - 1, and shortlex order (01: prefix order; the report's definition 1).
---   Over a w        every letter of w is below a
---   is_over a w      the same as a truth value
---   Lex u v         at the first place where the two differ, u has the smaller letter
---   Shortlex u v    u comes before v: shorter words first, equal lengths by the first differing letter
---   NotAfter u v    u is v or comes before it
+--   Over a w      every letter of w is below a
+--   is_over a w   the same as a truth value
+--   Lex u v       at the first place where the two differ, u has the smaller letter
+--   Shortlex u v  u comes before v: shorter words first, equal lengths by the first differing letter
+--   NotAfter u v  u is v or comes before it
 use Rattle.std.specs.Prelude.{◌≡◌, Bool, true, ◌&&◌, ◌⊎◌, List, [], ◌∷◌, ℕ, ◌<◌, ltb, length}
 
 abbrev pub Over : ℕ → List ℕ → Type 0

@@ -1,11 +1,11 @@
 -- The catalogue's minimal records by number (01: Catalogue), and the service that gives them out.
---   last                  the last number
---   letters_at j          how many letters entry j has
---   entry_of j             its automaton
---   basis_at j            its basis words
---   record_of j           its record
---   catalogue_of j room   what the service does with a buffer of so many bytes: row 13, then 12, else the record
---   GivesEntry j exit r   what is claimed of the answer r and the buffer at exit, over all words and all automata
+--   last                 the last number
+--   letters_at j         how many letters entry j has
+--   entry_of j           its automaton
+--   basis_at j           its basis words
+--   record_of j          its record
+--   catalogue_of j room  what the service does with a buffer of so many bytes: row 13, then 12, else the record
+--   GivesEntry j exit r  what is claimed of the answer r and the buffer at exit, over all words and all automata
 use Rattle.std.specs.Prelude.{◌≡◌, cond, List, [], ◌∷◌, ℕ, ◌+◌, ◌*◌, ltb, get_or, take}
 use Rattle.automata.specs.Automaton.{Automaton}
 use Rattle.automata.specs.Mask.{bit_of}

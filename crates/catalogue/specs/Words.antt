@@ -1,5 +1,5 @@
 -- The words of each entry, as 01 names them (01: Catalogue).
---   no_word           0: no word
+--   no_word          0: no word
 --   every_word       1: every word
 --   only_empty       2: the empty word only
 --   ends_in_one      3: the words whose last letter is 1

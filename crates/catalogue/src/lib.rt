@@ -1,7 +1,8 @@
 // The catalogue of minimal records by number.
 #![tactic(auto)]
+
 ghost use Rattle.std.specs.Prelude.{◌≡◌, ◌<◌, ◌≤◌, length};
-ghost use Rattle.rows.specs.Table.{size as tableSize};
+ghost use Rattle.rows.specs.Table.{size as table_size};
 ghost use Rattle.record.specs.Record.{states_of, letters_of};
 ghost use Rattle.record.specs.Outcome.{answer_in, buffer_in};
 ghost use Rattle.record.specs.Held.{HeldUpTo, Holds};
@@ -43,7 +44,7 @@ fn load_block(j: usize, l: usize, t: &mut Table)
 
 // Entry j: its rows into a lent table, the rest into a machine.
 fn load(j: usize, t: &mut Table) -> Machine
-    requires { (j ≤ last) × (length t.old ≡ tableSize) }
+    requires { (j ≤ last) × (length t.old ≡ table_size) }
     ensures { Holds (record_of j) t.new result }
 {
     let a = LETTERS[j];

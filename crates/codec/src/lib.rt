@@ -1,12 +1,13 @@
 // A record read into a machine and a table, and written from them.
 #![tactic(auto)]
+
 ghost use Rattle.std.specs.Prelude.{◌≡◌, [], ◌∷◌, ◌+◌, ◌*◌, ◌%◌, ◌≤◌, ◌<◌, ◌^◌, length};
 ghost use Rattle.std.proofs.lemmas.List.Edits.{sets};
 ghost use Rattle.automata.specs.WordList.{join_below};
 ghost use Rattle.automata.specs.Fields.{rows_of};
 ghost use Rattle.rows.specs.Row.{mask};
 ghost use Rattle.rows.specs.Table.{at};
-ghost use Rattle.rows.specs.Table.{size as tableSize};
+ghost use Rattle.rows.specs.Table.{size as table_size};
 ghost use Rattle.rows.specs.Machine.{automaton_in, Valid};
 ghost use Rattle.record.specs.Bytes.{bytes_of, all_bytes};
 ghost use Rattle.record.specs.Record.{max_states, max_letters, row_bytes, header, rows_at, states_of, letters_of, length_of, WellFormed, head_of, encode};
@@ -37,7 +38,7 @@ fn read_block(bytes: &[u8], l: usize, t: &mut Table)
 
 // A well-formed record read: its rows into a lent table, the rest into a machine.
 pub fn read(bytes: &[u8], t: &mut Table) -> Machine
-    requires { WellFormed bytes.now × (length t.old ≡ tableSize) }
+    requires { WellFormed bytes.now × (length t.old ≡ table_size) }
     ensures { Holds bytes.now t.new result }
 {
     let n = record::size(bytes[5]);

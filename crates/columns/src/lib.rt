@@ -1,6 +1,7 @@
 // The columns of the basis rows at the pivots p of a basis, whose block 0 has the basis row of each pivot. The basis rows are laid one
 // after another in a table, and the table is transposed: so a row of it names pivots by their rank.
 #![tactic(auto)]
+
 ghost use Rattle.std.specs.Prelude.{◌≡◌, true, ℕ, ◌^◌, ◌≤◌, ◌<◌, length};
 ghost use Rattle.automata.specs.Mask.{bit_of};
 ghost use Rattle.rows.specs.Row.{width, mask};

@@ -1,5 +1,6 @@
 // The comparison of two records: from bytes to the first word that just one accepts.
 #![tactic(auto)]
+
 ghost use Rattle.std.specs.Prelude.{◌≡◌, length};
 ghost use Rattle.record.specs.Outcome.{buffer_in};
 ghost use Rattle.operands.specs.Meant.{as_meant};

@@ -1,5 +1,6 @@
 // The comparison of two well-formed records over the same letters: the first row that just one accepts, and which.
 #![tactic(auto)]
+
 ghost use Rattle.std.specs.Prelude.{◌≡◌, ◌≤◌, length};
 ghost use Rattle.basis.specs.Basis.{Room};
 ghost use Rattle.trail.specs.Trail.{trail_size};

@@ -1,5 +1,6 @@
 // The concatenation of two automata in tables: the first, and wherever a row of it ends a word the second as well.
 #![tactic(auto)]
+
 ghost use Rattle.std.specs.Prelude.{◌≡◌, ℕ, ◌+◌, ◌^◌, ◌≤◌, ◌<◌, length};
 ghost use Rattle.automata.specs.Cuts.{concatenation};
 ghost use Rattle.rows.specs.Row.{width, mask};

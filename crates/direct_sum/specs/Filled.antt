@@ -1,8 +1,8 @@
 -- Tables filled with the rows of given matrices.
---   Filled a n f s       the first n rows of the first a blocks of s are f
---   Joined l n k u t s   s is t with the k rows of block l of u, moved up by n, after the first n rows of that block
---   Changed l n f t s    s is t but for the first n rows of block l, which are f
---   ChangedUpTo l n f t s    s is t but for the first n rows of the blocks below l, which are f
+--   Filled a n f s         the first n rows of the first a blocks of s are f
+--   Joined l n k u t s     s is t with the k rows of block l of u, moved up by n, after the first n rows of that block
+--   Changed l n f t s      s is t but for the first n rows of block l, which are f
+--   ChangedUpTo l n f t s  s is t but for the first n rows of the blocks below l, which are f
 use Rattle.std.specs.Prelude.{◌≡◌, List, ℕ, ◌+◌, ◌*◌, ◌^◌, ◌<◌, ◌≤◌, length}
 use Rattle.rows.specs.Row.{width}
 use Rattle.rows.specs.Table.{size, at}

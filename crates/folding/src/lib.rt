@@ -1,6 +1,7 @@
 // The rows of a table folded onto the pivots p of a basis, whose block 0 has the basis row of each pivot. The j-th pivot becomes state j, and
 // bit j of a folded row says whether the row shares an odd number of bits with the basis row of that pivot.
 #![tactic(auto)]
+
 ghost use Rattle.std.specs.Prelude.{◌≡◌, ◌+◌, ◌≤◌, ◌<◌, length};
 ghost use Rattle.rows.specs.Row.{width, mask};
 ghost use Rattle.rows.specs.Table.{blocks, size};

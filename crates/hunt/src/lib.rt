@@ -1,5 +1,6 @@
 // The search for the first accepted row of two records side by side: what it has come to, where it starts, and its one step.
 #![tactic(auto)]
+
 ghost use Rattle.std.specs.Prelude.{◌≡◌, ◌+◌, ◌^◌, ◌≤◌, ◌<◌};
 ghost use Rattle.rows.specs.Row.{width, mask};
 ghost use Rattle.rows.specs.Product.{product};

@@ -1,5 +1,6 @@
 // The meet of two records: the product automaton of their minimal automata, and the minimal record of its words.
 #![tactic(auto)]
+
 ghost use Rattle.std.specs.Prelude.{◌≡◌, ℕ, ◌+◌, ◌*◌, ◌^◌, ◌≤◌, ◌<◌, length};
 ghost use Rattle.automata.specs.Language.{intersection};
 ghost use Rattle.rows.specs.Row.{width, mask};

@@ -1,11 +1,11 @@
 -- The lines of a marking (01: Marking a script): fields with a space between them, and the byte 0A at the end.
---   refused_line i n p    i refused n p
---   key_line d            0 key dim d
---   same_line i d         i same dim d
---   differ_line i d w s   i differ dim d word w accepted-by s
---   too_long_line         too long
---   Begun before line at text    a text was stored from the start of a lent line on; at is where it ends
---   Begins line n text           the first n bytes of a lent line are the text
+--   refused_line i n p         i refused n p
+--   key_line d                 0 key dim d
+--   same_line i d              i same dim d
+--   differ_line i d w s        i differ dim d word w accepted-by s
+--   too_long_line              too long
+--   Begun before line at text  a text was stored from the start of a lent line on; at is where it ends
+--   Begins line n text         the first n bytes of a lent line are the text
 use Rattle.std.specs.Prelude.{◌≡◌, List, ◌++◌, ℕ, ◌≤◌, length, take}
 use Rattle.std.proofs.lemmas.List.Edits.{sets}
 use Rattle.text.specs.Text.{ascii, decimal, word_text}

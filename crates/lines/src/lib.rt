@@ -1,5 +1,6 @@
 // The lines of a marking, built in a lent line, and a line given into a lent buffer.
 #![tactic(auto)]
+
 ghost use Rattle.std.specs.Prelude.{◌≡◌, ◌+◌, ◌≤◌, ◌<◌, length, take};
 ghost use Rattle.std.proofs.lemmas.List.Edits.{sets};
 ghost use Rattle.automata.specs.Word.{Over};

@@ -1,5 +1,6 @@
 // Marks each script that an argument names, and prints its name before its lines: several inputs in one run.
 #![tactic(auto)]
+
 use libc::STDOUT_FILENO;
 
 fn mark_file(index: usize) {

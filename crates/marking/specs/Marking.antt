@@ -1,10 +1,10 @@
 -- Marking a script (01: Marking a script): the line of the record of each index, and the marking service.
---   dimension_in bs           the dimension of a record's language
+--   dimension_in bs            the dimension of a record's language
 --   key_of s                   the bytes of a script's first record
---   record_line s index bs    the line of a record that stands whole, as that of an index
---   part_line s index p       the line of a part of the script: of a record, of a refusal, or none at the end
+--   record_line s index bs     the line of a record that stands whole, as that of an index
+--   part_line s index p        the line of a part of the script: of a record, of a refusal, or none at the end
 --   line_at s index at         the line of what stands at a position, as that of an index
---   mark_line s index         the line of an index, no bytes where there is none
+--   mark_line s index          the line of an index, no bytes where there is none
 --   mark_outcome s index room  what the service does with a buffer of so many bytes
 use Rattle.std.specs.Prelude.{cond, List, [], ℕ, ltb, eqb, length, take}
 use Rattle.std.proofs.Math.Option.{Option, none, some}

@@ -1,5 +1,6 @@
 // Marking a script: the line of each of its records, and the marking service.
 #![tactic(auto)]
+
 ghost use Rattle.std.specs.Prelude.{◌≡◌, [], ◌∷◌, ◌≤◌, ◌<◌, length};
 ghost use Rattle.record.specs.Record.{WellFormed};
 ghost use Rattle.record.specs.Outcome.{fit, answer_of, buffer_of, answer_in, buffer_in};

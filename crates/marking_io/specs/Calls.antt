@@ -1,8 +1,8 @@
 -- What the calls that read and write have done. Which bytes came, and where those handed over went, no contract can say.
---   Within c n    one call that was lent n bytes moved no more than these
---   Received i n  a buffer of n bytes received no more than these
+--   Within c n     one call that was lent n bytes moved no more than these
+--   Received i n   a buffer of n bytes received no more than these
 --   script_in i b  the script that was read into the buffer b: as many of its bytes as were received
---   Sent p n      what was printed, if it did not fail, is all of n bytes
+--   Sent p n       what was printed, if it did not fail, is all of n bytes
 use Rattle.std.specs.Prelude.{◌≡◌, List, [], ℕ, ◌≤◌, take}
 use Rattle.marking_io.specs.declared.Call.{Call}
 use Rattle.marking_io.specs.declared.Call.TheVariants.{Moved, Broken}

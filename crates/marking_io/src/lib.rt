@@ -5,6 +5,7 @@
 // counts of the calls are added up, and that a failure is told, is read off `read_script`, `print`, `mark_into` and `mark_from`. What was read
 // is handed on as `read_script` gave it, and what is printed is the text of that.
 #![tactic(auto)]
+
 ghost use Rattle.std.specs.Prelude.{◌≡◌, ◌++◌, ◌+◌, ◌≤◌, length, take, drop};
 ghost use Rattle.walk.specs.Walk.{place_of};
 ghost use Rattle.lines.specs.Lines.{longest, Begins};

@@ -1,5 +1,6 @@
 // The minimal record of a record: from bytes to bytes.
 #![tactic(auto)]
+
 ghost use Rattle.std.specs.Prelude.{◌≡◌, length};
 ghost use Rattle.rows.specs.Table.{size};
 ghost use Rattle.record.specs.Record.{WellFormed};

@@ -1,5 +1,6 @@
 // The minimal automaton: a basis of the columns that words reach, the automaton folded onto its pivots, and one reduction of that.
 #![tactic(auto)]
+
 ghost use Rattle.std.specs.Prelude.{◌≡◌, length};
 ghost use Rattle.rows.specs.Row.{mask};
 ghost use Rattle.rows.specs.Table.{size};

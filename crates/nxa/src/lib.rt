@@ -1,6 +1,7 @@
 // The C interface: one export for each service. Each takes numbers and byte slices and replies with five numbers. `numbers`, of each: all
 // that the reply's number can be, 0 first, then the refusals in the order of the checks.
 #![tactic(auto)]
+
 ghost use Rattle.std.specs.Prelude.{◌≡◌, [], ◌∷◌, ◌≤◌, length};
 ghost use Rattle.record.specs.Record.{check_of, WellFormed};
 ghost use Rattle.record.specs.Outcome.{answer_in, buffer_in, rewrite_of};

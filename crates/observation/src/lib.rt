@@ -1,6 +1,7 @@
 // Which rows of an automaton words tell apart: the search for a basis of the rows that words reach. Over the mirror of an automaton these
 // are the columns that words reach.
 #![tactic(auto)]
+
 ghost use Rattle.std.specs.Prelude.{◌≡◌, true, ◌^◌, ◌≤◌, ◌<◌, length};
 ghost use Rattle.automata.specs.Mask.{bit_of};
 ghost use Rattle.rows.specs.Row.{width, mask};

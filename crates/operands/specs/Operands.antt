@@ -1,7 +1,7 @@
 -- The checks of two records (01: "The first record runs 1 to 7, then the second", then row 8).
---   named c which rest     a refusal of record `which` is the whole answer; else the rest decides
---   pair_of bs cs           what the checks of both find
---   after_pair             what follows them in a service that writes
+--   named c which rest  a refusal of record `which` is the whole answer; else the rest decides
+--   pair_of bs cs       what the checks of both find
+--   after_pair          what follows them in a service that writes
 use Rattle.std.specs.Prelude.{Bool, cond, List, ℕ, eqb}
 use Rattle.record.specs.Record.{letters_of, check_of}
 use Rattle.record.specs.Outcome.{Outcome, refused}

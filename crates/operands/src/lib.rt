@@ -1,5 +1,6 @@
 // The two records that a service is called with: what the second stands for, and the checks of both.
 #![tactic(auto)]
+
 ghost use Rattle.std.specs.Prelude.{◌≡◌};
 ghost use Rattle.record.specs.Record.{letters_of};
 ghost use Rattle.operands.specs.Meant.{blank_of};

@@ -1,15 +1,15 @@
 -- Sum, complement and mirror (01: every language operation writes the minimal record of its result; rows 1 to 8, then 11, then 12), and the
 -- product (02, Note 2: chaining; the same rows). The field's word for the product of languages is concatenation (automata/specs/Cuts). The
 -- contracts of sum and product put their records in as they are meant (`asMeant`, operands/specs/Meant).
---   sum_outcome bs cs room      what each service does with a buffer of so many bytes
+--   sum_outcome bs cs room       what each service does with a buffer of so many bytes
 --   product_outcome bs cs room
 --   binary_outcome k bs cs room  the operation k on two records: sum or product
---   unary_outcome k bs room     the operation k on one record: complement or mirror
+--   unary_outcome k bs room      the operation k on one record: complement or mirror
 --   complement_outcome bs room
 --   mirror_outcome bs room
---   sum_words bs cs             the words that just one of two records accepts
---   product_words bs cs         the words with an odd number of cuts into a word of the first record and then a word of the second
---   Sums bs cs exit r           what is claimed of the answer r and the buffer at exit, over all words and all automata
+--   sum_words bs cs              the words that just one of two records accepts
+--   product_words bs cs          the words with an odd number of cuts into a word of the first record and then a word of the second
+--   Sums bs cs exit r            what is claimed of the answer r and the buffer at exit, over all words and all automata
 --   GivesProduct bs cs exit r
 --   Complements bs exit r
 --   Mirrors bs exit r

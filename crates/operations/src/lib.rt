@@ -1,5 +1,6 @@
 // Sum, product, complement and mirror: from records to the minimal record of the result.
 #![tactic(auto)]
+
 ghost use Rattle.std.specs.Prelude.{◌≡◌, ◌+◌, ◌≤◌, ◌<◌, length};
 ghost use Rattle.automata.specs.Language.{symmetric_difference, complement, reversal};
 ghost use Rattle.rows.specs.Row.{width, mask};

@@ -1,5 +1,6 @@
 // The matrix of a letter of two well-formed records side by side, as a lookup table of its rows.
 #![tactic(auto)]
+
 ghost use Rattle.std.specs.Prelude.{◌≡◌, ◌+◌, ◌*◌, ◌≤◌, ◌<◌, length};
 ghost use Rattle.rows.specs.Row.{mask};
 ghost use Rattle.record.specs.Record.{states_of, letters_of, WellFormed};

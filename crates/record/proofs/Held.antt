@@ -14,7 +14,7 @@ use Rattle.rows.specs.declared.Machine.{Machine}
 use Rattle.rows.specs.declared.Row.{Row}
 use Rattle.rows.specs.Row.{width, mask}
 use Rattle.rows.specs.Table.{blocks, at, stored}
-use Rattle.rows.specs.Table.{size as tableSize}
+use Rattle.rows.specs.Table.{size as table_size}
 use Rattle.rows.specs.Machine.{automaton_in, Valid}
 use Rattle.rows.proofs.TableLaws.{length_stored, stored_same, stored_block, stored_row}
 use Rattle.record.specs.Bytes.{number, bytes_of, all_bytes, AllBelow}
@@ -35,7 +35,7 @@ row_inside bs p e l i hl hi =
     let w = p.whole in
     rw e (omega (arith, row_lt (letters_of bs) (states_of bs) l i hl (rw e at hi)))
 
-pub filled_none : (bs t : List ℕ) → length t ≡ tableSize → HeldUpTo bs t 0 0
+pub filled_none : (bs t : List ℕ) → length t ≡ table_size → HeldUpTo bs t 0 0
 filled_none bs t e = record { size = e; letters = λ k j hk hj. absurd (omega arith); states = λ j hj. absurd (omega arith) }
 
 module _ (bs t : List ℕ) (l : ℕ) where

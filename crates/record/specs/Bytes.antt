@@ -1,8 +1,8 @@
 -- Numbers as bytes, low byte first, at any width (01: The record).
---   number w bs p    the number that w bytes of a list hold
---   bytes_of w x      the low w bytes of a number
---   all_bytes w xs    the same of each number of a list, end to end
---   AllBelow m xs    every member of a list is below m; what a byte slice holds is below 256
+--   number w bs p   the number that w bytes of a list hold
+--   bytes_of w x    the low w bytes of a number
+--   all_bytes w xs  the same of each number of a list, end to end
+--   AllBelow m xs   every member of a list is below m; what a byte slice holds is below 256
 use Rattle.std.specs.Prelude.{ℕ, zero, suc, ◌+◌, ◌*◌, ◌/◌, ◌%◌, ◌<◌, List, [], ◌∷◌, ◌++◌, get_or}
 
 -- The number in the w bytes from offset p.

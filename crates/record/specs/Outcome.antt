@@ -1,13 +1,13 @@
 -- What a service that writes does: its answer, and what it leaves in the lent buffer.
---   Outcome         a refusal by number, record and place, or the bytes written from the buffer's start
---   answer_of        what the service returns
---   buffer_of       what the buffer holds afterwards
---   answer_in        the same two of a service whose outcome goes by the room in its buffer
+--   Outcome     a refusal by number, record and place, or the bytes written from the buffer's start
+--   answer_of   what the service returns
+--   buffer_of   what the buffer holds afterwards
+--   answer_in   the same two of a service whose outcome goes by the room in its buffer
 --   buffer_in
---   refusal_of      the answer to a record that the check refuses
---   checked         the check of a record, then what follows
---   fit             row 12 of the refusal table
---   rewrite_of      a record read and written afresh
+--   refusal_of  the answer to a record that the check refuses
+--   checked     the check of a record, then what follows
+--   fit         row 12 of the refusal table
+--   rewrite_of  a record read and written afresh
 use Rattle.std.specs.Prelude.{ℕ, List, ◌++◌, cond, length, drop, ltb}
 use Rattle.record.specs.Record.{check_of}
 use Rattle.record.specs.declared.Checked.{Checked}

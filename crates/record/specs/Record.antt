@@ -1,16 +1,16 @@
 -- The record, version 1: its check, its machine, and the record of an automaton (01: The record; Refusals, rows 1 to 7).
---   states_of bs      n, as the record's bytes name it
---   letters_of bs     a, as the record's bytes name it
+--   states_of bs       n, as the record's bytes name it
+--   letters_of bs      a, as the record's bytes name it
 --   length_of n a      the length that n states and a letters need
---   row_at bs l i     the row of letter l and state i
---   front_of bs       rows 1 to 5 of the refusal table: all that can be asked before the length is known
---   check_of bs       rows 1 to 7: the record check
---   WellFormed bs     the record meets none of their conditions
---   automaton_of bs   the machine of a well-formed record
---   language_of bs    the words that the record accepts
+--   row_at bs l i      the row of letter l and state i
+--   front_of bs        rows 1 to 5 of the refusal table: all that can be asked before the length is known
+--   check_of bs        rows 1 to 7: the record check
+--   WellFormed bs      the record meets none of their conditions
+--   automaton_of bs    the machine of a well-formed record
+--   language_of bs     the words that the record accepts
 --   record_accepts bs  whether the record accepts a word that is tested, which may have letters outside the alphabet
 --   machine_of bs      the record's machine over any more letters
---   encode a A        the record of an automaton over a letters
+--   encode a A         the record of an automaton over a letters
 use Rattle.std.specs.Prelude.{◌≡◌, Bool, true, false, not, ◌||◌, List, [], ◌∷◌, ◌++◌, ℕ, zero, suc, ◌+◌, ◌*◌, ◌^◌, length, get_or, drop, ltb, leb, eqb}
 use Rattle.automata.specs.Automaton.{Automaton, accepts}
 use Rattle.automata.specs.Language.{Language, restriction}

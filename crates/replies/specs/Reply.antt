@@ -7,7 +7,7 @@
 --   of_compared    a comparison: value 0 where the languages are the same, else the record that accepts the word; its letters as length
 --   NumberIn ns r  the number of the reply r is one of ns: what a host must be ready for
 --   written_in     the answer that a host reads off a reply: the inverse of of_written, of of_tested, of of_minimised and of of_compared on the
---   tested_in       answers that come
+--   tested_in      answers that come
 --   minimised_in
 --   compared_in
 use Rattle.std.specs.Prelude.{cond, List, ℕ, zero, suc, eqb}

@@ -1,5 +1,6 @@
 // The reply that the C host gets: one struct for every service, and how each answer becomes one.
 #![tactic(auto)]
+
 ghost use Rattle.std.specs.Prelude.{◌≡◌};
 ghost use Rattle.replies.specs.Reply.{reply, refusal, of_checked, of_written, of_tested, of_minimised, side_number, of_compared};
 

@@ -1,9 +1,9 @@
 -- The result of an operation (01: every language operation writes the minimal record of its result; row 11, then 12).
---   limited d rest          row 11: a dimension over 32 is refused, else the rest decides
---   result_of a A room       the minimal record of A's language over a letters, in a buffer of so many bytes: rows 11 and 12
---   pair_refusal p          a refusal of the checks of two records, as the answer of an operation
---   Limits number limit     exactly when a limit refuses, and with which place
---   Gives a L Passed        what an operation is claimed to give once its records pass: the minimal record of L over a letters, or row 11
+--   limited d rest       row 11: a dimension over 32 is refused, else the rest decides
+--   result_of a A room   the minimal record of A's language over a letters, in a buffer of so many bytes: rows 11 and 12
+--   pair_refusal p       a refusal of the checks of two records, as the answer of an operation
+--   Limits number limit  exactly when a limit refuses, and with which place
+--   Gives a L Passed     what an operation is claimed to give once its records pass: the minimal record of L over a letters, or row 11
 use Rattle.std.specs.Prelude.{◌≡◌, cond, List, ℕ, ◌<◌, ltb, take}
 use Rattle.automata.specs.Automaton.{Automaton}
 use Rattle.automata.specs.Language.{Language}

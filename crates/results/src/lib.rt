@@ -1,5 +1,6 @@
 // The common end of the operations: from an automaton in a table to the minimal record of its words, or refusal 11 or 12.
 #![tactic(auto)]
+
 ghost use Rattle.std.specs.Prelude.{◌≡◌, length};
 ghost use Rattle.rows.specs.Table.{size};
 ghost use Rattle.rows.specs.Machine.{automaton_in, Valid};

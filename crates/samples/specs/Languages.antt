@@ -4,7 +4,7 @@
 --   nonempty         all words but the empty word
 --   empty_or_zero    the empty word and the word 0, and no other
 --   Named            a language of the catalogue by its number, or one of these
---   words_in          its words
+--   words_in         its words
 use Rattle.std.specs.Prelude.{true, false, ◌&&◌, [], ◌∷◌, ℕ, eqb}
 use Rattle.automata.specs.Language.{Language}
 use Rattle.catalogue.specs.Words.{entry_words}

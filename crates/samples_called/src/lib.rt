@@ -1,6 +1,7 @@
 // The starred samples and the case of the star through the services: each function asks a service for a sample, and promises what the
 // sample says.
 #![tactic(auto)]
+
 ghost use Rattle.std.specs.Prelude.{◌≡◌, [], ◌∷◌, ◌<◌, ◌≤◌, length};
 ghost use Rattle.automata.specs.Word.{Over};
 ghost use Rattle.record.specs.Outcome.{fit, buffer_of};

@@ -2,6 +2,7 @@
 // outside the alphabet (02: Note 3) through the services: a line for each.
 // What must come out is in the file `stdout`, as the scope has it.
 #![tactic(auto)]
+
 mod ask;
 mod make;
 mod show;

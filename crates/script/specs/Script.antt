@@ -1,11 +1,11 @@
 -- What stands at a position of a script: records end to end (01: Marking a script).
---   part_at s at            a whole record and where the next one starts, a refusal 1 to 6, or the end
---   after_part p at         where a reader stands afterwards: past a record, else where it was
---   Advances r p r'         a reader r gives out the part p that stands where it is, and is then r': past it, in the same script
---   read_to s k             where the reader of a script stands after k calls: from the start on, past one record after another
---   part_of_index s k       what it gives out at its call of index k
---   is_last p left           whether a reader that has given out p is asked no more: none is left to ask for, or it stays where it is
---   bytes_at s start next    the bytes of a record
+--   part_at s at           a whole record and where the next one starts, a refusal 1 to 6, or the end
+--   after_part p at        where a reader stands afterwards: past a record, else where it was
+--   Advances r p r'        a reader r gives out the part p that stands where it is, and is then r': past it, in the same script
+--   read_to s k            where the reader of a script stands after k calls: from the start on, past one record after another
+--   part_of_index s k      what it gives out at its call of index k
+--   is_last p left         whether a reader that has given out p is asked no more: none is left to ask for, or it stays where it is
+--   bytes_at s start next  the bytes of a record
 use Rattle.std.specs.Prelude.{◌≡◌, Bool, true, cond, List, ℕ, zero, suc, ◌+◌, ◌-◌, ltb, leb, eqb, length, take, drop}
 use Rattle.record.specs.Record.{front_of, need_of}
 use Rattle.record.specs.declared.Checked.{Checked}

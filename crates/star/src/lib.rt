@@ -1,6 +1,7 @@
 // The star of a record: the automaton with one state more that begins again wherever a word of the record ends, and the minimal record of
 // its words.
 #![tactic(auto)]
+
 ghost use Rattle.std.specs.Prelude.{◌≡◌, ◌+◌, ◌^◌, ◌≤◌, ◌<◌, length};
 ghost use Rattle.automata.specs.Cuts.{star};
 ghost use Rattle.rows.specs.Row.{width, mask};

@@ -1,7 +1,7 @@
 -- Testing a word (01: test a word; Refusals, rows 1 to 7; 02, Note 3: a word with a letter outside the alphabet is not accepted).
---   test_of bs w          what the test of the word w on the record bs answers
---   Tests bs w r         what is claimed of the answer r
---   Reached t m w x      x is the row that the machine reaches along w, for the contracts of inner functions
+--   test_of bs w     what the test of the word w on the record bs answers
+--   Tests bs w r     what is claimed of the answer r
+--   Reached t m w x  x is the row that the machine reaches along w, for the contracts of inner functions
 use Rattle.std.specs.Prelude.{◌≡◌, Bool, true, ◌&&◌, cond, List, ◌∷◌, ◌++◌, ℕ, ◌^◌, ◌≤◌, ◌<◌}
 use Rattle.automata.specs.Word.{Over, is_over}
 use Rattle.automata.specs.Mask.{bit_of}

@@ -1,5 +1,6 @@
 // The test of a word against a record.
 #![tactic(auto)]
+
 ghost use Rattle.std.specs.Prelude.{◌≡◌, false, cond, ℕ, ◌^◌, ◌≤◌, ◌<◌, ltb};
 ghost use Rattle.rows.specs.Row.{mask};
 ghost use Rattle.rows.specs.Table.{blocks, at};

@@ -1,5 +1,6 @@
 // Texts put together in a lent line, one run of bytes after another. Each writer answers the position after what it wrote.
 #![tactic(auto)]
+
 ghost use Rattle.std.specs.Prelude.{◌≡◌, ◌+◌, ◌<◌, ◌≤◌, length};
 ghost use Rattle.std.proofs.lemmas.List.Edits.{sets};
 ghost use Rattle.automata.specs.Word.{Over};

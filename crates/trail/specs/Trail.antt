@@ -1,7 +1,7 @@
 -- A trail: for each row of a search the earlier row and the letter that it came from.
 --   from_in w r, by_in w r  the row and the letter that row r came from
 --   linked w d k l          the trail with row d from row k by letter l
---   word_in w r              the word of row r: that of the row it came from, and the letter
+--   word_in w r             the word of row r: that of the row it came from, and the letter
 --   Traced a k w            what is known of the words of the rows up to row k
 use Rattle.std.specs.Prelude.{◌≡◌, List, [], ◌∷◌, ◌++◌, ℕ, ◌+◌, ◌<◌, ◌≤◌, get_or, set}
 use Rattle.automata.specs.Tree.{word_to}

@@ -2,6 +2,7 @@
 // than both have states tells two languages apart, if any does; so the row of each length is tried in turn. Where a row is an xor of those
 // before it, so are all that follow, and none of them is accepted.
 #![tactic(auto)]
+
 ghost use Rattle.std.specs.Prelude.{◌≡◌, ◌^◌, ◌≤◌, ◌<◌, length};
 ghost use Rattle.rows.specs.Row.{width, mask};
 ghost use Rattle.record.specs.Record.{WellFormed};

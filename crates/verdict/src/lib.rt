@@ -1,5 +1,6 @@
 // Two well-formed records over the same letters side by side, and what a comparison of them finds.
 #![tactic(auto)]
+
 ghost use Rattle.record.specs.Claims.{Operands};
 ghost use Rattle.hunt.specs.Both.{Paired};
 

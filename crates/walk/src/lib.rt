@@ -1,5 +1,6 @@
 // The walk through a script: where marking goes on after a record, and where the record of an index stands.
 #![tactic(auto)]
+
 ghost use Rattle.std.specs.Prelude.{◌≡◌, ◌≤◌, length};
 ghost use Rattle.script.specs.Script.{part_at, after_part};
 ghost use Rattle.walk.specs.Walk.{past_of, place_of};

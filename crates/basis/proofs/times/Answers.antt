@@ -23,10 +23,9 @@ loop-z-init c = (search rules, omega arith, left_start _ _)
 place : (c : In-loop-z) → c.args.l * c.args.stride + count_trailing_zeros 64 c.loop-z.z < length c.args.b.now
 unfolding mask
 place c =
-    let s = c in
-    let a = s.args in
+    let a = c.args in
     let v = c.loop-z in
-    lowest_inside a.stride a.l a.x.bits 64 v.z a.b.now s.requires.0 s.requires.1 s.requires.2 (omega arith) v.invariant.1 v.invariant.0
+    lowest_inside a.stride a.l a.x.bits 64 v.z a.b.now c.requires.0 c.requires.1 c.requires.2 (omega arith) v.invariant.1 v.invariant.0
 
 pub overflow_cast-y : goal.overflow_cast-y
 overflow_cast-y c = record { fits = omega (arith, place c) }

@@ -26,11 +26,10 @@ loop-s-init c = (search rules, omega arith, left_start _ _, left_start _ _)
 places : (c : In-loop-s) → (c.args.l * c.args.stride + count_trailing_zeros 64 c.loop-s.s < length c.args.b.now) × (c.args.g * c.args.stride + count_trailing_zeros 64 c.loop-s.s < length c.args.b.now)
 unfolding mask
 places c =
-    let s = c in
-    let a = s.args in
+    let a = c.args in
     let v = c.loop-s in (
-      lowest_inside a.stride a.l a.x.bits 64 v.s a.b.now s.requires.0 s.requires.1 s.requires.3 (omega arith) v.invariant.1 v.invariant.0,
-      lowest_inside a.stride a.g a.x.bits 64 v.s a.b.now s.requires.0 s.requires.2 s.requires.3 (omega arith) v.invariant.1 v.invariant.0,
+      lowest_inside a.stride a.l a.x.bits 64 v.s a.b.now c.requires.0 c.requires.1 c.requires.3 (omega arith) v.invariant.1 v.invariant.0,
+      lowest_inside a.stride a.g a.x.bits 64 v.s a.b.now c.requires.0 c.requires.2 c.requires.3 (omega arith) v.invariant.1 v.invariant.0,
     )
 
 pub overflow_cast-q : goal.overflow_cast-q

@@ -2,7 +2,6 @@
 use mathlib.Core.Path.{◌∙◌}
 use native.Mathlib.Omega.{arith}
 use lib.ListN.{length}
-use borrow.Author.Rules.{rules}
 use Rattle.record.specs.declared.Written.TheVariants.{Refused}
 use Rattle.catalogue.proofs.Records.{record_bounds, encode_loaded}
 use Rattle.catalogue.proofs.Giving.{number_met, number_passes, promises}
@@ -26,10 +25,9 @@ pub returns : goal.returns
 returns c =
     let w = c.write in
     let l = c.load-m in
-    let s = c in
-    let a = s.args in
+    let a = c.args in
     let room = length a.out.now in
-    let e = number_passes a.number room s.if-number-gt-LAST.false in
-    let same = encode_loaded a.number s.if-number-gt-LAST.false _ l.result l.ensures in
+    let e = number_passes a.number room c.if-number-gt-LAST.false in
+    let same = encode_loaded a.number c.if-number-gt-LAST.false _ l.result l.ensures in
     let p = promises a.number a.out.now w.new.buf w.result (rw e (w.ensures.answer ∙ rw same)) (rw e (w.ensures.buffer ∙ rw same)) in
     record { answer = p.0; buffer = p.1.0; claims = p.1.1 }

@@ -1,12 +1,10 @@
 -- `load_block`: the table is filled up to the row at hand.
 use mathlib.Core.Path.{◌≡◌, ◌∙◌}
-use Prim.Native.Nat.{◌+◌, ◌-◌, ◌*◌, ◌≤◌, ◌<◌}
+use Prim.Native.Nat.{◌+◌, ◌*◌, ◌≤◌, ◌<◌}
 use lib.ListN.{get_or}
 use native.Mathlib.Omega.{arith}
-use borrow.Author.Rules.{rules}
 use Rattle.rows.specs.Row.{mask}
 use Rattle.record.specs.Record.{states_of}
-use Rattle.record.specs.Held.{HeldUpTo}
 use Rattle.record.proofs.Held.{filled_row}
 use Rattle.catalogue.specs.Entries.{record_of}
 use Rattle.catalogue.proofs.Columns.{states, first, states_column, block_within, place_within, rows_column}
@@ -23,8 +21,7 @@ block c = block_within c.args.j c.args.l (get_or states c.args.j 0) c.requires.0
 inside : (c : In-loop-i)
     → get_or first c.args.j 0 + c.args.l * get_or states c.args.j 0 + c.loop-i.i < 15
 inside c =
-    let s = c in
-    place_within s.args.j s.args.l (get_or states s.args.j 0) s.requires.0 (states_column s.args.j s.requires.0) s.requires.1 c.loop-i.i c.loop-i-test.true
+    place_within c.args.j c.args.l (get_or states c.args.j 0) c.requires.0 (states_column c.args.j c.requires.0) c.requires.1 c.loop-i.i c.loop-i-test.true
 
 pub overflow_mul-first : goal.overflow_mul-first
 overflow_mul-first c = omega (arith, block (goal.at.overflow_mul-first c).Start)
@@ -46,23 +43,21 @@ bounds-first c = omega (arith, inside (goal.at.overflow_add-first-in-loop-i c).I
 
 pub store-requires : goal.store-requires
 store-requires c =
-    let s = c in
-    let f = record_bounds s.args.j s.requires.0 in
-    (omega (arith, s.requires.1), omega (arith, count (goal.at.store-requires s).Start))
+    let f = record_bounds c.args.j c.requires.0 in
+    (omega (arith, c.requires.1), omega (arith, count (goal.at.store-requires c).Start))
 
 pub overflow_add-i : goal.overflow_add-i
 overflow_add-i c = omega (arith, inside (goal.at.overflow_add-i c).In-loop-i)
 
 pub loop-i-preserved : goal.loop-i-preserved
 loop-i-preserved c =
-    let s = c in
     let v = c.loop-i in
-    let f = record_bounds s.args.j s.requires.0 in
-    let n = count (goal.at.overflow_add-i s).Start in (
+    let f = record_bounds c.args.j c.requires.0 in
+    let n = count (goal.at.overflow_add-i c).Start in (
       omega arith,
       rw c.store.ensures
-          (filled_row (record_of s.args.j) v.t s.args.l v.i (mask c.from_u64.result) (omega (arith, s.requires.1)) (omega arith) (omega arith)
-          (c.from_u64.ensures ∙ rows_column s.args.j s.args.l (get_or states s.args.j 0) s.requires.0 n s.requires.1 v.i c.loop-i-test.true)
+          (filled_row (record_of c.args.j) v.t c.args.l v.i (mask c.from_u64.result) (omega (arith, c.requires.1)) (omega arith) (omega arith)
+          (c.from_u64.ensures ∙ rows_column c.args.j c.args.l (get_or states c.args.j 0) c.requires.0 n c.requires.1 v.i c.loop-i-test.true)
           v.invariant.1),
     )
 

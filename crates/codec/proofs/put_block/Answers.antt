@@ -1,13 +1,11 @@
 -- `put_block`: the bytes of the rows passed are stored.
 use mathlib.Core.Path.{◌≡◌, refl, ◌∙◌}
-use mathlib.Core.List.{[], ◌∷◌}
-use Prim.Native.Nat.{◌+◌, ◌-◌, ◌*◌, ◌≤◌}
+use Prim.Native.Nat.{◌+◌, ◌*◌, ◌≤◌}
 use native.Mathlib.Omega.{arith}
 use native.Mathlib.Nat.{lt_of_lt_of_le}
 use lib.Pow.{pow_mono}
 use lib.ListN.{length}
-use lib.Seq.{sets, length-sets}
-use Rattle.automata.specs.WordList.{join_below}
+use lib.Seq.{length-sets}
 use Rattle.rows.specs.Table.{at}
 use Rattle.record.specs.Record.{row_bytes, rows_at}
 use Rattle.record.specs.Bytes.{all_bytes}
@@ -27,8 +25,7 @@ inside : (c : In-loop-i)
     → 4 * (c.args.l * c.args.m.states + c.loop-i.i) + 19
     ≤ length c.args.buf.now
 inside c =
-    let s = c in
-    omega (arith, s.requires.3, row_lt s.args.m.letters s.args.m.states s.args.l c.loop-i.i s.requires.2 c.loop-i-test.true)
+    omega (arith, c.requires.3, row_lt c.args.m.letters c.args.m.states c.args.l c.loop-i.i c.requires.2 c.loop-i-test.true)
 
 pub overflow_mul-first : goal.overflow_mul-first
 overflow_mul-first c = omega (arith, few c)
@@ -54,12 +51,11 @@ load-requires c =
 
 pub put_field-requires : goal.put_field-requires
 put_field-requires c =
-    let s = c in
-    let v = s.requires.0 in
+    let v = c.requires.0 in
     let b = c.loop-i in (
       rw (b.invariant.1, length-sets) (omega (arith, inside (goal.at.put_field-requires c).In-loop-i)),
       rw c.load.ensures
-          (lt_of_lt_of_le (v.rows s.args.l b.i s.requires.2 c.loop-i-test.true) (pow_mono {j = 64} v.states)),
+          (lt_of_lt_of_le (v.rows c.args.l b.i c.requires.2 c.loop-i-test.true) (pow_mono {j = 64} v.states)),
     )
 
 pub overflow_add-i : goal.overflow_add-i
@@ -70,12 +66,11 @@ loop-i-smaller c = omega arith
 
 pub loop-i-preserved : goal.loop-i-preserved
 loop-i-preserved c =
-    let b = c in
-    let a = b.args in (
+    let a = c.args in (
       omega arith,
       c.put_field.ensures
-          ∙ rw (b.loop-i.invariant.1, c.load.ensures)
-          (row_stored row_bytes (at a.t.now a.l) a.buf.now (rows_at + row_bytes * (a.l * a.m.states)) b.loop-i.i (omega arith)),
+          ∙ rw (c.loop-i.invariant.1, c.load.ensures)
+          (row_stored row_bytes (at a.t.now a.l) a.buf.now (rows_at + row_bytes * (a.l * a.m.states)) c.loop-i.i (omega arith)),
     )
 
 pub shape_of-buf : goal.shape_of-buf

@@ -1,7 +1,6 @@
 -- `put_head`: seven stores.
 use native.Mathlib.Omega.{arith}
 use lib.ListN.{length-set}
-use borrow.Author.Rules.{rules}
 use Rattle.codec.proofs.put_head.Goals as goal
 
 pub bounds-buf-1 : goal.bounds-buf-1

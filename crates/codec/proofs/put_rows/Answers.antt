@@ -1,9 +1,7 @@
 -- `put_rows`: the bytes of the letters passed are stored.
 use mathlib.Core.Path.{◌≡◌, refl, ◌∙◌}
-use Prim.Native.Nat.{◌-◌, ◌≤◌}
 use native.Mathlib.Omega.{arith}
-use lib.Seq.{sets, length-sets}
-use Rattle.automata.specs.Fields.{rows_of}
+use lib.Seq.{length-sets}
 use Rattle.rows.specs.Table.{at}
 use Rattle.record.specs.Record.{row_bytes, rows_at}
 use Rattle.record.specs.Bytes.{all_bytes}
@@ -27,10 +25,9 @@ loop-l-smaller c = omega arith
 
 pub loop-l-preserved : goal.loop-l-preserved
 loop-l-preserved c =
-    let b = c in
-    let a = b.args in (
+    let a = c.args in (
       omega arith,
-      rw (c.put_block.ensures, b.loop-l.invariant.1) (letter_stored row_bytes a.m.states (at a.t.now) a.buf.now rows_at b.loop-l.l),
+      rw (c.put_block.ensures, c.loop-l.invariant.1) (letter_stored row_bytes a.m.states (at a.t.now) a.buf.now rows_at c.loop-l.l),
     )
 
 pub shape_of-buf : goal.shape_of-buf

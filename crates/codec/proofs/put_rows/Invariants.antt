@@ -1,13 +1,11 @@
 -- `put_rows`: the bytes of the letters passed are stored.
-use mathlib.Core.Path.{◌≡◌, refl, ◌∙◌}
+use mathlib.Core.Path.{◌≡◌}
 use Prim.Native.Nat.{◌-◌, ◌≤◌}
-use native.Mathlib.Omega.{arith}
-use lib.Seq.{sets, length-sets}
+use lib.Seq.{sets}
 use Rattle.automata.specs.Fields.{rows_of}
 use Rattle.rows.specs.Table.{at}
 use Rattle.record.specs.Record.{row_bytes, rows_at}
 use Rattle.record.specs.Bytes.{all_bytes}
-use Rattle.record.proofs.Stores.{letter_stored}
 use Rattle.codec.proofs.put_rows.Given as goal
 
 abbrev pub invariant-loop-l : goal.invariant-loop-l

@@ -1,9 +1,7 @@
 -- `read`: the table is filled letter by letter, and then holds the record.
 use mathlib.Core.Path.{◌≡◌}
-use Prim.Native.Nat.{◌-◌, ◌≤◌}
 use native.Mathlib.Omega.{arith}
 use Rattle.record.specs.Record.{letters_of}
-use Rattle.record.specs.Held.{HeldUpTo}
 use Rattle.record.proofs.Refusals.{Passed, good_check}
 use Rattle.record.proofs.Held.{filled_none, filled_letter, holds}
 use Rattle.codec.proofs.read.Goals.{Start}
@@ -29,9 +27,8 @@ loop-l-init c = (omega arith, filled_none _ _ c.requires.1)
 
 pub read_block-requires : goal.read_block-requires
 read_block-requires c =
-    let s = c in
     let a = c.size-a.ensures.0 in
-    (s.requires.0, omega (arith, a, c.loop-l-test.true), c.loop-l.invariant.1)
+    (c.requires.0, omega (arith, a, c.loop-l-test.true), c.loop-l.invariant.1)
 
 pub overflow_add-l : goal.overflow_add-l
 overflow_add-l c = omega arith
@@ -50,8 +47,6 @@ field_at-requires-2 c = let p = passed (goal.at.field_at-requires-2 c).Start in 
 
 pub returns : goal.returns
 returns c =
-    let b = c in
-    let s = b in
-    let a = b.size-a.ensures.0 in
-    let all : b.loop-l.l ≡ letters_of s.args.bytes.now = omega (arith, a, c.loop-l-test.false, b.loop-l.invariant.0) in
-    holds s.args.bytes.now b.loop-l.t s.requires.0 (rw all at b.loop-l.invariant.1) b.size-n.ensures.0 a c.field_at.ensures c.field_at-2.ensures
+    let a = c.size-a.ensures.0 in
+    let all : c.loop-l.l ≡ letters_of c.args.bytes.now = omega (arith, a, c.loop-l-test.false, c.loop-l.invariant.0) in
+    holds c.args.bytes.now c.loop-l.t c.requires.0 (rw all at c.loop-l.invariant.1) c.size-n.ensures.0 a c.field_at.ensures c.field_at-2.ensures

@@ -1,11 +1,10 @@
 -- `read_block`: the table is filled up to the row at hand.
 use mathlib.Core.Path.{◌≡◌, ◌∙◌}
-use Prim.Native.Nat.{◌+◌, ◌-◌, ◌*◌, ◌≤◌}
+use Prim.Native.Nat.{◌+◌, ◌*◌, ◌≤◌}
 use lib.ListN.{length}
 use native.Mathlib.Omega.{arith}
 use Rattle.rows.specs.Row.{mask}
 use Rattle.record.specs.Record.{states_of}
-use Rattle.record.specs.Held.{HeldUpTo}
 use Rattle.record.proofs.Refusals.{Passed, good_check, area}
 use Rattle.record.proofs.Held.{row_inside, filled_row}
 use Rattle.codec.proofs.read_block.Goals.{After-size-n, In-loop-i, Start}
@@ -23,8 +22,7 @@ inside : (c : In-loop-i)
     → 15 + 4 * (c.args.l * c.size-n.result + c.loop-i.i) + 4
     ≤ length c.args.bytes.now
 inside c =
-    let s = c in
-    row_inside s.args.bytes.now (good_check _ s.requires.0) c.size-n.ensures.0 s.args.l c.loop-i.i s.requires.1 c.loop-i-test.true
+    row_inside c.args.bytes.now (good_check _ c.requires.0) c.size-n.ensures.0 c.args.l c.loop-i.i c.requires.1 c.loop-i-test.true
 
 pub bounds-bytes-5 : goal.bounds-bytes-5
 bounds-bytes-5 c = let f = (passed (goal.at.bounds-bytes-5 c).Start).front in omega arith
@@ -52,9 +50,8 @@ field_at-requires c = inside (goal.at.overflow_add-first c).In-loop-i
 
 pub store-requires : goal.store-requires
 store-requires c =
-    let s = c in
-    let f = (passed (goal.at.store-requires s).Start).front in
-    (omega (arith, s.requires.1), omega (arith, c.size-n.ensures))
+    let f = (passed (goal.at.store-requires c).Start).front in
+    (omega (arith, c.requires.1), omega (arith, c.size-n.ensures))
 
 pub overflow_add-i : goal.overflow_add-i
 overflow_add-i c = omega arith
@@ -64,13 +61,12 @@ loop-i-smaller c = omega arith
 
 pub loop-i-preserved : goal.loop-i-preserved
 loop-i-preserved c =
-    let s = c in
     let v = c.loop-i in
     let n = c.size-n.ensures.0 in
-    let f = (passed (goal.at.overflow_add-i s).Start).front in (
+    let f = (passed (goal.at.overflow_add-i c).Start).front in (
       omega arith,
       rw c.store.ensures
-          (filled_row s.args.bytes.now v.t s.args.l v.i (mask c.field_at.result) (omega (arith, s.requires.1)) (omega arith) (omega arith)
+          (filled_row c.args.bytes.now v.t c.args.l v.i (mask c.field_at.result) (omega (arith, c.requires.1)) (omega arith) (omega arith)
           (c.field_at.ensures ∙ rw n) v.invariant.1),
     )
 

@@ -6,7 +6,6 @@ use Rattle.record.specs.Record.{WellFormed}
 use Rattle.record.proofs.Refusals.{good_check}
 use Rattle.record.proofs.Held.{encode_held}
 use Rattle.record.proofs.Outcome.{rewrite_refused, rewrite_fit}
-use borrow.Author.Rules.{rules}
 use Rattle.codec.proofs.rewrite.Goals.{In-Good}
 use Rattle.codec.proofs.rewrite.Goals as goal
 
@@ -31,12 +30,10 @@ write-requires c =
 
 pub returns : goal.returns
 returns c =
-    let r = c in
-    let k = r in
-    let a = k.args in
+    let a = c.args in
     let bs = a.bytes.now in
-    let good = passed (goal.at.returns r).In-Good in
+    let good = passed (goal.at.returns c).In-Good in
     let e = rewrite_fit bs (length a.buf.now) good in
-    let same = encode_held bs r.read-m.new.t r.read-m.result (λ i. omega (arith, k.shared_slice_known-1.given i)) good r.read-m.ensures in
+    let same = encode_held bs c.read-m.new.t c.read-m.result (λ i. omega (arith, c.shared_slice_known-1.given i)) good c.read-m.ensures in
     let w = c.write.ensures in
     record { answer = rw e (w.answer ∙ rw same); buffer = rw e (w.buffer ∙ rw same) }

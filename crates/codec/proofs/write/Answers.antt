@@ -32,17 +32,11 @@ put_field-requires-2 c =
 
 pub returns : goal.returns
 returns c =
-    let rows = c in
-    let final = rows in
-    let initial = final in
-    let head = initial in
-    let whole = head in
-    let s = whole in
-    let room = head.if-buf-whole.false in
-    let A = automaton_in s.args.t.now s.args.m in
-    let out = encode s.args.m.letters A in
-    let l = length_encode s.args.m.letters A in
-    let l' = l ∙ sym whole.length_of-whole.ensures in
-    let e = fit_done (length s.args.buf.now) out l' room in
-    let w = written s.args.t.now s.args.m s.requires.0 s.args.buf.now (rw whole.length_of-whole.ensures at room) head.put_head.ensures initial.put_field.ensures final.put_field-2.ensures rows.put_rows.ensures in
+    let room = c.if-buf-whole.false in
+    let A = automaton_in c.args.t.now c.args.m in
+    let out = encode c.args.m.letters A in
+    let l = length_encode c.args.m.letters A in
+    let l' = l ∙ sym c.length_of-whole.ensures in
+    let e = fit_done (length c.args.buf.now) out l' room in
+    let w = written c.args.t.now c.args.m c.requires.0 c.args.buf.now (rw c.length_of-whole.ensures at room) c.put_head.ensures c.put_field.ensures c.put_field-2.ensures c.put_rows.ensures in
     record { answer = rw e (ap Done (sym l')); buffer = rw e (w ∙ rw l) }

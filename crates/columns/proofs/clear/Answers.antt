@@ -1,10 +1,7 @@
 -- `clear`: the rows from r up to i have no bit, those below r are as they were.
 use mathlib.Core.Path.{◌≡◌}
-use Prim.Native.Nat.{◌-◌, ◌≤◌}
 use native.Mathlib.Omega.{arith}
 use Rattle.rows.specs.Row.{mask}
-use Rattle.rows.specs.Table.{row}
-use Rattle.transpose.specs.Exchange.{padded, HasRows, OnlyBlock}
 use Rattle.transpose.proofs.BlockLaws.{only_start, clear_start, clear_step}
 use Rattle.columns.proofs.clear.Goals as goal
 
@@ -13,9 +10,8 @@ none-none-requires c = tt
 
 pub loop-i-init : goal.loop-i-init
 loop-i-init c =
-    let s = c in
-    let a = s.args in
-    (omega arith, omega (arith, s.requires.0), only_start 0 a.c.now s.requires.2, clear_start 0 a.r a.c.now)
+    let a = c.args in
+    (omega arith, omega (arith, c.requires.0), only_start 0 a.c.now c.requires.2, clear_start 0 a.r a.c.now)
 
 pub store-requires : goal.store-requires
 store-requires c = omega arith
@@ -28,12 +24,9 @@ loop-i-smaller c = omega arith
 
 pub loop-i-preserved : goal.loop-i-preserved
 loop-i-preserved c =
-    let g = c in
-    let v = g.loop-i in
-    let z = g in
-    let s = z in
-    let a = s.args in
-    let C = clear_step 0 a.r v.i (mask z.none-none.result) a.c.now v.c c.store.new.t (omega arith) (omega arith) v.invariant.0 z.none-none.ensures c.store.ensures (v.invariant.2, v.invariant.3) in
+    let v = c.loop-i in
+    let a = c.args in
+    let C = clear_step 0 a.r v.i (mask c.none-none.result) a.c.now v.c c.store.new.t (omega arith) (omega arith) v.invariant.0 c.none-none.ensures c.store.ensures (v.invariant.2, v.invariant.3) in
     (omega arith, omega arith, C.0, C.1)
 
 pub returns : goal.returns

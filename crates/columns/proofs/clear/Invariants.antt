@@ -1,11 +1,7 @@
 -- `clear`: the rows from r up to i have no bit, those below r are as they were.
-use mathlib.Core.Path.{◌≡◌}
 use Prim.Native.Nat.{◌-◌, ◌≤◌}
-use native.Mathlib.Omega.{arith}
-use Rattle.rows.specs.Row.{mask}
 use Rattle.rows.specs.Table.{row}
 use Rattle.transpose.specs.Exchange.{padded, HasRows, OnlyBlock}
-use Rattle.transpose.proofs.BlockLaws.{only_start, clear_start, clear_step}
 use Rattle.columns.proofs.clear.Given as goal
 
 abbrev pub invariant-loop-i : goal.invariant-loop-i

@@ -1,5 +1,4 @@
 -- `columns`: the basis rows laid and cleared behind are transposed.
-use borrow.Author.Rules.{rules}
 use native.Mathlib.Omega.{arith}
 use Rattle.rows.specs.Row.{mask}
 use Rattle.columns.proofs.LayLaws.{laid_le, laid_low, laid_columns}
@@ -8,17 +7,15 @@ use Rattle.columns.proofs.columns.Goals as goal
 pub clear-requires : goal.clear-requires
 clear-requires c =
     let l = c.lay-r in
-    let s = c in
-    let a = s.args in
-    (laid_le a.n (mask a.p) l.result a.b.now l.new.c l.ensures, s.requires.0, l.ensures.size)
+    let a = c.args in
+    (laid_le a.n (mask a.p) l.result a.b.now l.new.c l.ensures, c.requires.0, l.ensures.size)
 
 pub transpose-requires : goal.transpose-requires
 transpose-requires c =
     let d = c.clear in
     let l = c.lay-r in
-    let s = c in
-    let a = s.args in
-    (omega arith, s.requires.0, laid_low a.n (mask a.p) l.result a.b.now l.new.c d.new.c l.ensures d.ensures.1 s.requires.3, d.ensures.0.size)
+    let a = c.args in
+    (omega arith, c.requires.0, laid_low a.n (mask a.p) l.result a.b.now l.new.c d.new.c l.ensures d.ensures.1 c.requires.3, d.ensures.0.size)
 
 pub returns : goal.returns
 returns c =

@@ -1,7 +1,7 @@
 -- `lay`: the basis rows of the pivots below k are laid, and z has the pivots ahead. The loop knows the pivots by the bits that it began with.
 use mathlib.Core.Path.{◌≡◌, refl}
 use mathlib.Core.Bool.{true}
-use Prim.Native.Nat.{ℕ, ◌+◌, ◌<◌, ◌≤◌}
+use Prim.Native.Nat.{ℕ, ◌+◌, ◌<◌}
 use native.Mathlib.Omega.{arith}
 use Rattle.automata.specs.Mask.{bit_of}
 use Rattle.rows.specs.Row.{mask}

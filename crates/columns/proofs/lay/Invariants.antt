@@ -1,14 +1,9 @@
 -- `lay`: the basis rows of the pivots below k are laid, and z has the pivots ahead. The loop knows the pivots by the bits that it began with.
-use mathlib.Core.Path.{◌≡◌, refl}
-use mathlib.Core.Bool.{true}
-use Prim.Native.Nat.{ℕ, ◌+◌, ◌<◌, ◌≤◌}
-use native.Mathlib.Omega.{arith}
+use Prim.Native.Nat.{ℕ, ◌≤◌}
 use Rattle.automata.specs.Mask.{bit_of}
 use Rattle.rows.specs.Row.{mask}
-use Rattle.rows.proofs.LoopLaws.{some_bit, no_bit, cleared_less}
 use Rattle.columns.specs.Laid.{Laid}
-use Rattle.observation.proofs.Rising.{Ahead, ahead_start, ahead_end, ahead_next, next_from, next_below, next_pivot, between}
-use Rattle.columns.proofs.LayLaws.{laid_start, laid_le, laid_over, laid_pivot}
+use Rattle.observation.proofs.Rising.{Ahead}
 use Rattle.columns.proofs.lay.Given as goal
 
 abbrev pub invariant-loop-z : goal.invariant-loop-z

@@ -6,7 +6,6 @@ use Rattle.record.specs.Outcome.{buffer_of}
 use Rattle.compare.specs.Compare.{difference_of, compared_refusal, compared_as}
 use Rattle.compare.proofs.CompareLaws.{outcome_refused}
 use Rattle.compare.proofs.Claims.{claims}
-use borrow.Author.Rules.{rules}
 use Rattle.compare.proofs.compare_meant.Goals as goal
 
 pub returns-in_default : goal.returns-in_default

@@ -1,5 +1,4 @@
 -- `refuse`: case by case.
-use borrow.Author.Rules.{rules}
 use Rattle.compare.proofs.refuse.Goals as goal
 
 pub returns-in-Refused : goal.returns-in-Refused

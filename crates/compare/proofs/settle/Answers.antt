@@ -15,7 +15,6 @@ use Rattle.operands.proofs.PairLaws.{both_passed}
 use Rattle.compare.specs.Compare.{difference_of, side_of}
 use Rattle.compare.specs.declared.Compared.TheVariants.{Differs, Refused}
 use Rattle.compare.proofs.CompareLaws.{outcome_same, outcome_word, word_answer, word_withheld, same_answer}
-use borrow.Author.Rules.{rules}
 use Rattle.compare.proofs.settle.Goals.{After-size-a, In-Differs}
 use Rattle.compare.proofs.settle.Goals as goal
 
@@ -37,9 +36,8 @@ compare-v-requires c = (both_passed _ _ c.requires, refl)
 pub returns-in_default : goal.returns-in_default
 unfolding difference_of
 returns-in_default c =
-    let s = c in
-    let a = s.args in
-    let None-found = rw c.in_default.is at c.compare-v.ensures in record { answer = sym (same_answer a.first.now a.second.now (length a.word.now) s.requires None-found); buffer = sym (ap (λ x. buffer_of x a.word.now) (outcome_same a.first.now a.second.now (length a.word.now) s.requires None-found)) }
+    let a = c.args in
+    let None-found = rw c.in_default.is at c.compare-v.ensures in record { answer = sym (same_answer a.first.now a.second.now (length a.word.now) c.requires None-found); buffer = sym (ap (λ x. buffer_of x a.word.now) (outcome_same a.first.now a.second.now (length a.word.now) c.requires None-found)) }
 
 pub bounds-first-6 : goal.bounds-first-6
 bounds-first-6 c = let f = (good_check _ (both_passed _ _ c.requires).0).front in omega (arith, f.long)
@@ -49,20 +47,21 @@ depth-n-requires c = traced (goal.at.depth-n-requires c).After-size-a
 
 pub returns-then-word-n : goal.returns-then-word-n
 returns-then-word-n c =
-    let s = c in
-    let a = s.args in
+    let a = c.args in
     let w = word_in c.compare-v.new.w c.in-Differs.row in
     let e = c.depth-n.ensures.0 in
-    let short : length a.word.now < length w = rw e at c.if-word-n.true in record { answer = ap (Refused 12 0) e ∙ sym (word_withheld a.first.now a.second.now (length a.word.now) s.requires w (difference (goal.at.returns-then-word-n c).In-Differs) short); buffer = sym (ap (λ x. buffer_of x a.word.now) (outcome_word a.first.now a.second.now (length a.word.now) s.requires w (difference (goal.at.returns-then-word-n c).In-Differs) ∙ fit_short (length a.word.now) w refl short)) }
+    let short : length a.word.now < length w = rw e at c.if-word-n.true in record { answer = ap (Refused 12 0) e ∙ sym (word_withheld a.first.now a.second.now (length a.word.now) c.requires w (difference (goal.at.returns-then-word-n c).In-Differs) short); buffer = sym (ap (λ x. buffer_of x a.word.now) (outcome_word a.first.now a.second.now (length a.word.now) c.requires w (difference (goal.at.returns-then-word-n c).In-Differs) ∙ fit_short (length a.word.now) w refl short)) }
 
 pub trace-requires : goal.trace-requires
 trace-requires c = (traced (goal.at.trace-requires c).After-size-a, c.depth-n.ensures.0, omega arith)
 
 pub returns : goal.returns
 returns c =
-    let s = c in
-    let a = s.args in
+    let a = c.args in
     let w = word_in c.compare-v.new.w c.in-Differs.row in
     let e = c.depth-n.ensures.0 in
-    let room : length w ≤ length a.word.now = rw e at c.if-word-n.false in record { answer = ap₂ Differs e (c.named_side-s.ensures ∙ ap side_of (found (goal.at.returns c).In-Differs).side) ∙ sym (word_answer a.first.now a.second.now (length a.word.now) s.requires w (difference (goal.at.returns c).In-Differs) room); buffer = c.trace.ensures ∙ ap (λ k. w ++ drop k a.word.now) e
-          ∙ sym (ap (λ x. buffer_of x a.word.now) (outcome_word a.first.now a.second.now (length a.word.now) s.requires w (difference (goal.at.returns c).In-Differs) ∙ fit_done (length a.word.now) w refl room)) }
+    let room : length w ≤ length a.word.now = rw e at c.if-word-n.false in record {
+      answer = ap₂ Differs e (c.named_side-s.ensures ∙ ap side_of (found (goal.at.returns c).In-Differs).side) ∙ sym (word_answer a.first.now a.second.now (length a.word.now) c.requires w (difference (goal.at.returns c).In-Differs) room);
+      buffer = c.trace.ensures ∙ ap (λ k. w ++ drop k a.word.now) e
+          ∙ sym (ap (λ x. buffer_of x a.word.now) (outcome_word a.first.now a.second.now (length a.word.now) c.requires w (difference (goal.at.returns c).In-Differs) ∙ fit_done (length a.word.now) w refl room));
+    }

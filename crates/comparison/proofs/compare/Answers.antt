@@ -7,7 +7,6 @@ use Rattle.record.proofs.Refusals.{good_check}
 use Rattle.hunt.specs.Hunt.{shared}
 use Rattle.hunt.proofs.BothLaws.{paired_initial}
 use Rattle.verdict.proofs.RowLaws.{side_told, judged_empty, none_initial, none_final}
-use borrow.Author.Rules.{rules}
 use Rattle.comparison.proofs.compare.Goals.{After-parity}
 use Rattle.comparison.proofs.compare.Goals as goal
 
@@ -20,16 +19,14 @@ told c =
 
 pub field_at-g-requires : goal.field_at-g-requires
 field_at-g-requires c =
-    let s = c in
-    omega (arith, (good_check s.args.first.now s.requires.0.0).whole)
+    omega (arith, (good_check c.args.first.now c.requires.0.0).whole)
 
 pub returns-then-parity : goal.returns-then-parity
 returns-then-parity c =
-    let s = c in
-    let a = s.args in
+    let a = c.args in
     let p = c.paired-m in
     let g = c.field_at-g in
-    judged_empty a.first.now a.second.now p.result p.ensures a.w.now c.parity-then-parity.result (side_told a.first.now s.requires.0.0 (mask g.result) (mask p.result.initial) c.parity-then-parity.result g.ensures c.parity-then-parity.ensures) (sym (told (goal.at.returns-then-parity c).After-parity) ∙ c.if-parity.true)
+    judged_empty a.first.now a.second.now p.result p.ensures a.w.now c.parity-then-parity.result (side_told a.first.now c.requires.0.0 (mask g.result) (mask p.result.initial) c.parity-then-parity.result g.ensures c.parity-then-parity.ensures) (sym (told (goal.at.returns-then-parity c).After-parity) ∙ c.if-parity.true)
 
 -- No state is initial.
 pub returns-then-is_none : goal.returns-then-is_none
@@ -47,5 +44,4 @@ returns-then-is_none-2 c =
 
 pub first_longer-requires : goal.first_longer-requires
 first_longer-requires c =
-    let s = c in
-    record { paired = c.paired-m.ensures; trail = s.requires.1; empty = sym (told (goal.at.first_longer-requires c).After-parity) ∙ c.if-parity.false; column = c.field_at-g.ensures }
+    record { paired = c.paired-m.ensures; trail = c.requires.1; empty = sym (told (goal.at.first_longer-requires c).After-parity) ∙ c.if-parity.false; column = c.field_at-g.ensures }

@@ -1,22 +1,13 @@
 -- `first_letter`: no word of one letter below l is accepted by just one.
-use mathlib.Core.Path.{◌≡◌, sym, ◌∙◌}
+use mathlib.Core.Path.{◌≡◌}
 use mathlib.Core.Bool.{false}
 use mathlib.Core.List.{[], ◌∷◌}
 use Prim.Native.Nat.{ℕ, ◌-◌, ◌<◌, ◌≤◌}
-use native.Mathlib.Nat.{not-suc-le-zero}
-use native.Mathlib.Numerals.{add-one}
-use native.Mathlib.Omega.{arith}
 use lib.ListN.{length}
 use Rattle.automata.specs.Xor.{◌⊕◌}
 use Rattle.automata.specs.Automaton.{accepts}
-use Rattle.automata.proofs.Below.{up_to}
-use Rattle.rows.specs.Row.{mask}
 use Rattle.trail.specs.Trail.{trail_size}
 use Rattle.record.specs.Record.{automaton_of}
-use Rattle.hunt.specs.Hunt.{shared}
-use Rattle.hunt.proofs.BothLaws.{paired_sizes}
-use Rattle.verdict.proofs.RowLaws.{side_told, row_start, row_below}
-use Rattle.comparison.proofs.LetterLaws.{letter_row, letter_tried, letter_found, letters_end}
 use Rattle.comparison.proofs.first_letter.Given as goal
 
 abbrev pub invariant-loop-l : goal.invariant-loop-l

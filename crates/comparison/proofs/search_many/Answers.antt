@@ -5,6 +5,5 @@ use Rattle.comparison.proofs.search_many.Goals as goal
 
 pub first_row-requires : goal.first_row-requires
 first_row-requires c =
-    let s = c in
-    let a = s.args in
-    ((paired_sizes a.first.now a.second.now a.m s.requires.paired).1, search rules, search rules)
+    let a = c.args in
+    ((paired_sizes a.first.now a.second.now a.m c.requires.paired).1, search rules, search rules)

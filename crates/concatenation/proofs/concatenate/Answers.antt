@@ -4,7 +4,6 @@ use Rattle.rows.specs.Row.{mask}
 use Rattle.rows.specs.Machine.{Bounded}
 use Rattle.rows.proofs.BesideLaws.{moved_fits}
 use Rattle.concatenation.proofs.BuiltLaws.{concatenation_built}
-use borrow.Author.Rules.{rules}
 use Rattle.concatenation.proofs.concatenate.Goals.{Start}
 use Rattle.concatenation.proofs.concatenate.Goals as goal
 
@@ -14,28 +13,25 @@ second s = subst (λ a. Bounded a s.args.u.now s.args.h.states (mask s.args.h.in
 
 pub moved-start-requires : goal.moved-start-requires
 moved-start-requires c =
-    let s = c in
-    let a = s.args in
-    (s.requires.3, moved_fits a.g.states a.h.states (mask a.h.initial) s.requires.1.initial s.requires.4)
+    let a = c.args in
+    (c.requires.3, moved_fits a.g.states a.h.states (mask a.h.initial) c.requires.1.initial c.requires.4)
 
 pub open_rows-requires : goal.open_rows-requires
-open_rows-requires c = let s = c in (s.requires.0.letters, s.requires.0.states, s.requires.0.rows, s.requires.0.size)
+open_rows-requires c = (c.requires.0.letters, c.requires.0.states, c.requires.0.rows, c.requires.0.size)
 
 pub join-requires : goal.join-requires
-join-requires c = let s = c in (s.requires.0.letters, s.requires.3, s.requires.4, (second (goal.at.join-requires s).Start).rows, c.open_rows.ensures.size)
+join-requires c = (c.requires.0.letters, c.requires.3, c.requires.4, (second (goal.at.join-requires c).Start).rows, c.open_rows.ensures.size)
 
 pub moved-finals-requires : goal.moved-finals-requires
 moved-finals-requires c =
-    let s = c in
-    let a = s.args in
-    (s.requires.3, moved_fits a.g.states a.h.states (mask a.h.finals) s.requires.1.finals s.requires.4)
+    let a = c.args in
+    (c.requires.3, moved_fits a.g.states a.h.states (mask a.h.finals) c.requires.1.finals c.requires.4)
 
 pub returns : goal.returns
 returns c =
-    let s = c in
-    let a = s.args in
+    let a = c.args in
     let x = c.moved-start in
     let o = c.open_rows in
     let j = c.join in
-    concatenation_built a.t.now o.new.t a.u.now j.new.t a.g a.h s.requires.0 (second (goal.at.returns s).Start) (mask x.result) x.ensures o.ensures j.ensures s.requires.4 _ refl refl
-    (c.opened-initial.ensures a.g.states s.requires.0.initial) c.moved-finals.ensures
+    concatenation_built a.t.now o.new.t a.u.now j.new.t a.g a.h c.requires.0 (second (goal.at.returns c).Start) (mask x.result) x.ensures o.ensures j.ensures c.requires.4 _ refl refl
+    (c.opened-initial.ensures a.g.states c.requires.0.initial) c.moved-finals.ensures

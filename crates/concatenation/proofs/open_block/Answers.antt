@@ -1,13 +1,11 @@
 -- `open_block`: the first k rows are opened, the others are as they were.
 use mathlib.Core.Path.{◌≡◌, sym, ap, subst, ◌∙◌}
-use Prim.Native.Nat.{◌-◌, ◌^◌, ◌≤◌, ◌<◌}
+use Prim.Native.Nat.{◌^◌, ◌<◌}
 use native.Mathlib.Omega.{arith}
 use Rattle.rows.specs.Row.{mask}
 use Rattle.rows.specs.Table.{at}
-use Rattle.direct_sum.specs.Filled.{Changed}
 use Rattle.direct_sum.proofs.Changing.{changed_start, changed_step}
 use Rattle.concatenation.specs.Opened.{opened, opened_rows}
-use borrow.Author.Rules.{rules}
 use Rattle.concatenation.proofs.open_block.Goals as goal
 
 pub loop-k-init : goal.loop-k-init
@@ -29,14 +27,13 @@ loop-k-smaller c = omega arith
 
 pub loop-k-preserved : goal.loop-k-preserved
 loop-k-preserved c =
-    let s = c in
-    let a = s.args in
+    let a = c.args in
     let v = c.loop-k in
     let x = c.load-x in
     let same : mask x.result ≡ at a.t.now a.l v.k = x.ensures ∙ v.invariant.1.rest v.k (omega arith) (omega arith) in
-    let y = c.opened-y.ensures a.n (subst (λ z. z < 2 ^ a.n) (sym same) (s.requires.2 v.k (omega arith))) in (
+    let y = c.opened-y.ensures a.n (subst (λ z. z < 2 ^ a.n) (sym same) (c.requires.2 v.k (omega arith))) in (
       omega arith,
-      changed_step a.l (opened_rows a.n (mask a.f) (mask a.start) (at a.t.now) a.l) a.t.now v.k v.t c.store.new.t (mask c.opened-y.result) s.requires.0
+      changed_step a.l (opened_rows a.n (mask a.f) (mask a.start) (at a.t.now) a.l) a.t.now v.k v.t c.store.new.t (mask c.opened-y.result) c.requires.0
           (omega arith) (y ∙ ap (opened a.n (mask a.f) (mask a.start)) same) c.store.ensures v.invariant.1,
     )
 

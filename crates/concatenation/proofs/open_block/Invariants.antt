@@ -1,13 +1,9 @@
 -- `open_block`: the first k rows are opened, the others are as they were.
-use mathlib.Core.Path.{◌≡◌, sym, ap, subst, ◌∙◌}
-use Prim.Native.Nat.{◌-◌, ◌^◌, ◌≤◌, ◌<◌}
-use native.Mathlib.Omega.{arith}
+use Prim.Native.Nat.{◌-◌, ◌≤◌}
 use Rattle.rows.specs.Row.{mask}
 use Rattle.rows.specs.Table.{at}
 use Rattle.direct_sum.specs.Filled.{Changed}
-use Rattle.direct_sum.proofs.Changing.{changed_start, changed_step}
-use Rattle.concatenation.specs.Opened.{opened, opened_rows}
-use borrow.Author.Rules.{rules}
+use Rattle.concatenation.specs.Opened.{opened_rows}
 use Rattle.concatenation.proofs.open_block.Given as goal
 
 abbrev pub invariant-loop-k : goal.invariant-loop-k

@@ -1,12 +1,9 @@
 -- `open_rows`: the rows of the letters below l are opened.
-use mathlib.Core.Path.{◌≡◌, sym, subst}
-use Prim.Native.Nat.{◌-◌, ◌^◌, ◌≤◌, ◌<◌}
-use native.Mathlib.Omega.{arith}
+use Prim.Native.Nat.{◌-◌, ◌≤◌}
 use Rattle.rows.specs.Row.{mask}
 use Rattle.rows.specs.Table.{at}
 use Rattle.direct_sum.specs.Filled.{ChangedUpTo}
-use Rattle.direct_sum.proofs.Changing.{up_to_start, up_to_step, up_to_end}
-use Rattle.concatenation.specs.Opened.{opened, opened_rows}
+use Rattle.concatenation.specs.Opened.{opened_rows}
 use Rattle.concatenation.proofs.open_rows.Given as goal
 
 abbrev pub invariant-loop-l : goal.invariant-loop-l

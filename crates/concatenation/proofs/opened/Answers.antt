@@ -3,7 +3,6 @@ use mathlib.Core.Path.{ap, ◌∙◌}
 use mathlib.Core.Bool.{cond}
 use lib.Bits.{bit_xor}
 use Rattle.rows.specs.Row.{mask}
-use borrow.Author.Rules.{rules}
 use Rattle.concatenation.proofs.opened.Goals as goal
 
 pub returns : goal.returns

@@ -15,9 +15,8 @@ loop-l-init c =
 
 pub join_block-requires : goal.join_block-requires
 join_block-requires c =
-    let s = c in
     let v = c.loop-l in
-    (s.requires.1, s.requires.2, omega arith, λ j h. s.requires.3 v.l j (omega arith) h, v.invariant.1.size)
+    (c.requires.1, c.requires.2, omega arith, λ j h. c.requires.3 v.l j (omega arith) h, v.invariant.1.size)
 
 pub overflow_add-l : goal.overflow_add-l
 overflow_add-l c = omega arith
@@ -28,9 +27,8 @@ loop-l-smaller c = omega arith
 pub loop-l-preserved : goal.loop-l-preserved
 loop-l-preserved c =
     let v = c.loop-l in
-    let s = c in
-    let a = s.args in
-    (omega arith, besides_step v.l a.n a.k a.t.now a.u.now v.t c.join_block.new.t s.requires.2 c.join_block.ensures v.invariant.1)
+    let a = c.args in
+    (omega arith, besides_step v.l a.n a.k a.t.now a.u.now v.t c.join_block.new.t c.requires.2 c.join_block.ensures v.invariant.1)
 
 pub returns : goal.returns
 returns c =

@@ -16,9 +16,8 @@ load-x-requires c = omega arith
 pub moved-y-requires : goal.moved-y-requires
 moved-y-requires c =
     let v = c.loop-j in
-    let s = c in
-    let a = s.args in
-    (s.requires.0, moved_fits a.n a.k (mask c.load-x.result) (subst (λ x. x < 2 ^ a.k) (sym c.load-x.ensures) (s.requires.3 v.j (omega arith))) s.requires.1)
+    let a = c.args in
+    (c.requires.0, moved_fits a.n a.k (mask c.load-x.result) (subst (λ x. x < 2 ^ a.k) (sym c.load-x.ensures) (c.requires.3 v.j (omega arith))) c.requires.1)
 
 pub overflow_add-n : goal.overflow_add-n
 overflow_add-n c = omega arith
@@ -35,10 +34,9 @@ loop-j-smaller c = omega arith
 pub loop-j-preserved : goal.loop-j-preserved
 loop-j-preserved c =
     let v = c.loop-j in
-    let s = c in
-    let a = s.args in (
+    let a = c.args in (
       omega arith,
-      joined_step a.l a.n a.u.now a.t.now v.j v.t c.store.new.t (mask c.moved-y.result) (omega (arith, s.requires.1, c.loop-j-test.true)) s.requires.2
+      joined_step a.l a.n a.u.now a.t.now v.j v.t c.store.new.t (mask c.moved-y.result) (omega (arith, c.requires.1, c.loop-j-test.true)) c.requires.2
           (c.moved-y.ensures ∙ ap (λ x. x * 2 ^ a.n) c.load-x.ensures) c.store.ensures v.invariant.1,
     )
 

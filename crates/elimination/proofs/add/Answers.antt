@@ -8,10 +8,9 @@ use Rattle.elimination.proofs.add.Goals as goal
 
 pub returns : goal.returns
 returns c =
-    let s = c in
-    let a = s.args in (
+    let a = c.args in (
       added_turn a.stride a.n a.s.count (mask a.s.pivots) a.q (mask a.x) (mask a.y) a.b.now c.spread.new.b c.put.new.b c.put-2.new.b
-          s.requires.1 (omega (arith, s.requires.1, s.requires.2)) (omega (arith, s.requires.1, s.requires.3)) s.requires.4 c.spread.ensures c.put.ensures c.put-2.ensures,
+          c.requires.1 (omega (arith, c.requires.1, c.requires.2)) (omega (arith, c.requires.1, c.requires.3)) c.requires.4 c.spread.ensures c.put.ensures c.put-2.ensures,
       refl,
       c.xor.ensures ∙ ap (bit_xor (mask a.s.pivots)) c.unit.ensures,
       c.or.ensures,

@@ -35,11 +35,10 @@ loop-j-smaller c = omega arith
 pub loop-j-preserved : goal.loop-j-preserved
 loop-j-preserved c =
     let v = c.loop-j in
-    let s = c in
-    let a = s.args in (
+    let a = c.args in (
       omega (arith, c.loop-j-test.true),
       fold_turn a.stride v.j a.l a.q (mask a.x) a.b.now v.b c.put.new.b (mask c.get-e.result) (mask c.when-u.result) (mask c.get-d.result) (mask c.xor.result) c.has-o.result
-          s.requires.0 (omega (arith, c.loop-j-test.true, s.requires.1)) s.requires.3
+          c.requires.0 (omega (arith, c.loop-j-test.true, c.requires.1)) c.requires.3
           c.get-e.ensures c.has-o.ensures c.when-u.ensures c.get-d.ensures c.xor.ensures c.put.ensures v.invariant.1,
     )
 

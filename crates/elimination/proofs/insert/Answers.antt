@@ -12,24 +12,22 @@ use Rattle.elimination.proofs.PlaceLaws.{place_old}
 use Rattle.elimination.proofs.insert.Goals as goal
 
 pub left_of-left-requires : goal.left_of-left-requires
-left_of-left-requires c = let s = c in (s.requires.2, lt_of_lt_of_le s.requires.3 (pow_mono s.requires.1))
+left_of-left-requires c = (c.requires.2, lt_of_lt_of_le c.requires.3 (pow_mono c.requires.1))
 
 pub returns-then-is_none : goal.returns-then-is_none
 returns-then-is_none c =
-    let s = c in
-    let a = s.args in
+    let a = c.args in
     let n = a.n in
     let p = mask a.s.pivots in
     let y = mask a.y in
     let x = c.left_of-left in
-    λ C F. (C, onto n (bit_of p) C (bit_of y), inl (place_old a.stride n a.s.count p (mask a.s.used) y a.b.now C F s.requires.3 (mask x.result) x.ensures (onto n (bit_of p) C (bit_of y)) (λ i. refl) (eqb-true (mask x.result) 0 (sym c.is_none.ensures ∙ c.if-is_none.true))))
+    λ C F. (C, onto n (bit_of p) C (bit_of y), inl (place_old a.stride n a.s.count p (mask a.s.used) y a.b.now C F c.requires.3 (mask x.result) x.ensures (onto n (bit_of p) C (bit_of y)) (λ i. refl) (eqb-true (mask x.result) 0 (sym c.is_none.ensures ∙ c.if-is_none.true))))
 
 pub extend-requires : goal.extend-requires
 extend-requires c =
-    let s = c in
     let x = c.left_of-left in
     let some = eqb-false (mask x.result) 0 (sym c.is_none.ensures ∙ c.if-is_none.false) in
-    (s.requires.0, s.requires.1, s.requires.2, s.requires.3, s.requires.4, s.requires.5, x.ensures, omega (arith, some))
+    (c.requires.0, c.requires.1, c.requires.2, c.requires.3, c.requires.4, c.requires.5, x.ensures, omega (arith, some))
 
 pub returns : goal.returns
 returns c = λ C F. let e = c.extend.ensures C F in (e.0, e.1, inr e.2)

@@ -6,9 +6,8 @@ use Rattle.elimination.proofs.left_of.Goals as goal
 
 pub times-e-requires : goal.times-e-requires
 times-e-requires c =
-    let s = c in
-    let a = s.args in
-    (s.requires.0, omega arith, pivots_low a.stride a.stride (mask a.y) (mask a.s.pivots) c.and-z.ensures s.requires.1 (omega arith))
+    let a = c.args in
+    (c.requires.0, omega arith, pivots_low a.stride a.stride (mask a.y) (mask a.s.pivots) c.and-z.ensures c.requires.1 (omega arith))
 
 pub returns : goal.returns
 returns c =

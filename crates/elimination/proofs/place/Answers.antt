@@ -15,9 +15,8 @@ use Rattle.elimination.proofs.place.Goals as goal
 
 pub times_two-w-requires : goal.times_two-w-requires
 times_two-w-requires c =
-    let s = c in
-    let a = s.args in
-    (s.requires.2, omega arith, omega arith, pivots_low a.stride a.n (mask a.y) (mask a.s.pivots) c.and-z.ensures s.requires.3 s.requires.1)
+    let a = c.args in
+    (c.requires.2, omega arith, omega arith, pivots_low a.stride a.n (mask a.y) (mask a.s.pivots) c.and-z.ensures c.requires.3 c.requires.1)
 
 -- What is left of the row.
 left : (c : After-xor-left) → LeftOf c.args.stride (mask c.args.s.pivots) (mask c.args.y) c.args.b.now (mask c.xor-left.result)
@@ -30,22 +29,19 @@ left c =
 -- The coefficients of the basis rows that are taken off.
 named : (c : After-xor-left) → (i : ℕ) → bit_of (mask c.times_two-w.result.second) i ≡ onto c.args.n (bit_of (mask c.args.s.pivots)) (bits c.args.stride c.args.b.now 2) (bit_of (mask c.args.y)) i
 named c =
-    let s = c in
-    let a = s.args in
+    let a = c.args in
     let p = mask a.s.pivots in
     let y = mask a.y in
     let and = c.and-z in
     let w = c.times_two-w in
-    on_pivots a.stride a.n p y a.b.now and.ensures 2 (mask w.result.second) (w.ensures a.n (pivots_low a.n a.n y p and.ensures s.requires.3 (omega arith))).1
+    on_pivots a.stride a.n p y a.b.now and.ensures 2 (mask w.result.second) (w.ensures a.n (pivots_low a.n a.n y p and.ensures c.requires.3 (omega arith))).1
 
 pub returns-then-is_none : goal.returns-then-is_none
 returns-then-is_none c =
-    let s = c in
-    let a = s.args in
+    let a = c.args in
     let t = a.b.now in
-    let x = c in
-    inl (place_old a.stride a.n a.s.count (mask a.s.pivots) (mask a.s.used) (mask a.y) t (bits a.stride t 2) s.requires.4 s.requires.3 (mask x.xor-left.result) (left (goal.at.returns-then-is_none x).After-xor-left) (bit_of (mask x.times_two-w.result.second)) (named (goal.at.returns-then-is_none x).After-xor-left)
-    (eqb-true (mask x.xor-left.result) 0 (sym c.is_none.ensures ∙ c.if-is_none.true)))
+    inl (place_old a.stride a.n a.s.count (mask a.s.pivots) (mask a.s.used) (mask a.y) t (bits a.stride t 2) c.requires.4 c.requires.3 (mask c.xor-left.result) (left (goal.at.returns-then-is_none c).After-xor-left) (bit_of (mask c.times_two-w.result.second)) (named (goal.at.returns-then-is_none c).After-xor-left)
+    (eqb-true (mask c.xor-left.result) 0 (sym c.is_none.ensures ∙ c.if-is_none.true)))
 
 pub lowest-q-requires : goal.lowest-q-requires
 lowest-q-requires c =
@@ -55,42 +51,35 @@ lowest-q-requires c =
 -- The new pivot is below n, and there is room for one more row.
 fits : (c : After-lowest-q) → (c.lowest-q.result < c.args.n) × (c.args.s.count < c.args.n)
 fits c =
-    let s = c in
-    let a = s.args in
+    let a = c.args in
     let t = a.b.now in
-    let x = c in
-    both_below a.stride a.n a.s.count (mask a.s.pivots) (mask a.s.used) (mask a.y) t (bits a.stride t 2) s.requires.4 s.requires.3 (mask x.xor-left.result) (left (goal.at.unit-u-requires x).After-xor-left) c.lowest-q.result c.lowest-q.ensures.1
+    both_below a.stride a.n a.s.count (mask a.s.pivots) (mask a.s.used) (mask a.y) t (bits a.stride t 2) c.requires.4 c.requires.3 (mask c.xor-left.result) (left (goal.at.unit-u-requires c).After-xor-left) c.lowest-q.result c.lowest-q.ensures.1
 
 pub unit-u-requires : goal.unit-u-requires
 unit-u-requires c = omega (arith, fits c, c.requires.0)
 
 pub spread-requires : goal.spread-requires
 spread-requires c =
-    let s = c in
-    let a = s.args in
-    (omega arith, s.requires.1, c.lowest-q.ensures.0, s.requires.2, unused a.stride a.n a.s.count (mask a.s.pivots) (mask a.s.used) c.lowest-q.result a.b.now (bits a.stride a.b.now 2) s.requires.4 s.requires.5)
+    let a = c.args in
+    (omega arith, c.requires.1, c.lowest-q.ensures.0, c.requires.2, unused a.stride a.n a.s.count (mask a.s.pivots) (mask a.s.used) c.lowest-q.result a.b.now (bits a.stride a.b.now 2) c.requires.4 c.requires.5)
 
 pub put-requires : goal.put-requires
 put-requires c =
-    let l = c in
-    let s = l in
-    let f = fits (goal.at.put-requires l).After-lowest-q in
-    (omega (arith, s.requires.2, c.spread.ensures.size), omega arith, omega (arith, f, s.requires.1))
+    let f = fits (goal.at.put-requires c).After-lowest-q in
+    (omega (arith, c.requires.2, c.spread.ensures.size), omega arith, omega (arith, f, c.requires.1))
 
 pub add-t-requires : goal.add-t-requires
 add-t-requires c =
-    let s = c in
-    let a = s.args in
+    let a = c.args in
     let l = c.lowest-q in
     let f = fits (goal.at.add-t-requires c).After-lowest-q in
-    let U = unused a.stride a.n a.s.count (mask a.s.pivots) (mask a.s.used) l.result a.b.now (bits a.stride a.b.now 2) s.requires.4 s.requires.5 in
-    let r = unused_after a.stride a.n (mask a.s.pivots) (mask a.s.used) l.result (mask c.xor-own.result) a.b.now c.spread.new.b c.put.new.b s.requires.1 (omega (arith, f, s.requires.1)) s.requires.2 c.spread.ensures c.put.ensures U in
-    (s.requires.0, s.requires.1, f.0, f.1, r.0, r.1)
+    let U = unused a.stride a.n a.s.count (mask a.s.pivots) (mask a.s.used) l.result a.b.now (bits a.stride a.b.now 2) c.requires.4 c.requires.5 in
+    let r = unused_after a.stride a.n (mask a.s.pivots) (mask a.s.used) l.result (mask c.xor-own.result) a.b.now c.spread.new.b c.put.new.b c.requires.1 (omega (arith, f, c.requires.1)) c.requires.2 c.spread.ensures c.put.ensures U in
+    (c.requires.0, c.requires.1, f.0, f.1, r.0, r.1)
 
 pub returns : goal.returns
 returns c =
-    let s = c in
-    let a = s.args in
+    let a = c.args in
     let n = a.n in
     let d = a.s.count in
     let p = mask a.s.pivots in
@@ -98,7 +87,6 @@ returns c =
     let y = mask a.y in
     let t = a.b.now in
     let q = c.lowest-q in
-    let x = c in
     let A = c.add-t.ensures in
-    inr (rw (A.1, A.2, A.3) (place_kept a.stride n d p v y t (bits a.stride t 2) s.requires.4 s.requires.3 (mask x.xor-left.result) (left (goal.at.returns x).After-xor-left) q.result q.ensures.1
-    refl s.requires.5 s.requires.1 s.requires.2 (mask x.times_two-w.result.second) (named (goal.at.returns x).After-xor-left) (mask c.unit-u.result) c.unit-u.ensures (mask c.xor-own.result) c.xor-own.ensures c.spread.new.b c.put.new.b c.add-t.new.b c.spread.ensures c.put.ensures A.0))
+    inr (rw (A.1, A.2, A.3) (place_kept a.stride n d p v y t (bits a.stride t 2) c.requires.4 c.requires.3 (mask c.xor-left.result) (left (goal.at.returns c).After-xor-left) q.result q.ensures.1
+    refl c.requires.5 c.requires.1 c.requires.2 (mask c.times_two-w.result.second) (named (goal.at.returns c).After-xor-left) (mask c.unit-u.result) c.unit-u.ensures (mask c.xor-own.result) c.xor-own.ensures c.spread.new.b c.put.new.b c.add-t.new.b c.spread.ensures c.put.ensures A.0))

@@ -13,27 +13,23 @@ use Rattle.elimination.proofs.spread.Goals as goal
 -- The rows to do are in the block, and those of the pivots are among them.
 among : (c : Joined-stride-k) → (c.if-stride-k.k ≤ c.args.stride) × ((j : ℕ) → j < c.args.n → bit_of (mask c.args.p) j ≡ true → j < c.if-stride-k.k)
 among c =
-    let s = c in
     let u = c.span-k in
-    elim s.if-stride-k.branch [
-      | then-stride-k w ↦ (omega arith, λ j h e. omega (arith, s.requires.1))
+    elim c.if-stride-k.branch [
+      | then-stride-k w ↦ (omega arith, λ j h e. omega (arith, c.requires.1))
       | else-stride-k w ↦ (omega arith, λ j h e. subst (λ k. j < k) (sym w.k-is) (bit_below u.result u.ensures.1 j e))
     ]
 
 pub fold-requires : goal.fold-requires
 fold-requires c =
-    let s = c in
-    (s.requires.0, (among (goal.at.fold-requires c).Joined-stride-k).0, s.requires.2, s.requires.3)
+    (c.requires.0, (among (goal.at.fold-requires c).Joined-stride-k).0, c.requires.2, c.requires.3)
 
 pub returns-after-stride-k : goal.returns-after-stride-k
 returns-after-stride-k c =
-    let j = c in
-    let a = j.args in
+    let a = c.args in
     let f = c.fold in
-    folded_pivots a.stride j.if-stride-k.k a.n (mask a.p) a.l a.q (mask a.x) a.b.now f.new.b (among (goal.at.returns-after-stride-k j).Joined-stride-k).1 f.ensures
+    folded_pivots a.stride c.if-stride-k.k a.n (mask a.p) a.l a.q (mask a.x) a.b.now f.new.b (among (goal.at.returns-after-stride-k c).Joined-stride-k).1 f.ensures
 
 pub returns-else-has : goal.returns-else-has
 returns-else-has c =
-    let s = c in
-    let a = s.args in
-    folded_none a.stride a.n (mask a.p) (mask a.v) a.l a.q (mask a.x) a.b.now s.requires.4 (sym c.has.ensures ∙ c.if-has.false)
+    let a = c.args in
+    folded_none a.stride a.n (mask a.p) (mask a.v) a.l a.q (mask a.x) a.b.now c.requires.4 (sym c.has.ensures ∙ c.if-has.false)

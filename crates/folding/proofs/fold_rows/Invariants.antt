@@ -1,16 +1,11 @@
 -- `fold_rows`: the rows of the pivots below k are folded, and z has the pivots ahead. The loop knows the pivots by the bits that it began with.
-use mathlib.Core.Path.{◌≡◌, sym, ap, ◌∙◌}
-use mathlib.Core.Bool.{true}
-use Prim.Native.Nat.{ℕ, ◌+◌, ◌<◌, ◌≤◌}
-use native.Mathlib.Omega.{arith}
+use mathlib.Core.Path.{◌≡◌}
+use Prim.Native.Nat.{ℕ, ◌≤◌}
 use Rattle.automata.specs.Mask.{bit_of}
 use Rattle.rows.specs.Row.{mask}
-use Rattle.rows.proofs.LoopLaws.{some_bit, no_bit, cleared_less}
 use Rattle.observation.specs.Listed.{rank}
-use Rattle.observation.proofs.ListedLaws.{rank_start, rank_step_pivot, rank_le}
-use Rattle.observation.proofs.Rising.{Ahead, ahead_start, ahead_end, ahead_next, next_from, next_below, next_pivot, between}
+use Rattle.observation.proofs.Rising.{Ahead}
 use Rattle.folding.specs.Folding.{FoldedTo}
-use Rattle.folding.proofs.RowLaws.{folded_start, folded_over, folded_pivot}
 use Rattle.folding.proofs.fold_rows.Given as goal
 
 abbrev pub invariant-loop-z : goal.invariant-loop-z

@@ -1,9 +1,7 @@
 -- `fold_table`: the first l blocks are folded, the others are as they were.
 use mathlib.Core.Path.{◌≡◌}
-use Prim.Native.Nat.{◌-◌, ◌≤◌}
 use native.Mathlib.Omega.{arith}
 use Rattle.rows.specs.Row.{mask}
-use Rattle.folding.specs.Folding.{FoldedBlocks}
 use Rattle.folding.proofs.RowLaws.{blocks_start, blocks_step}
 use Rattle.folding.proofs.fold_table.Goals as goal
 
@@ -12,8 +10,7 @@ loop-l-init c = (omega arith, blocks_start c.args.n (mask c.args.p) c.args.g c.a
 
 pub fold_rows-requires : goal.fold_rows-requires
 fold_rows-requires c =
-    let s = c in
-    (omega arith, s.requires.1, s.requires.2, c.loop-l.invariant.1.size)
+    (omega arith, c.requires.1, c.requires.2, c.loop-l.invariant.1.size)
 
 pub overflow_add-l : goal.overflow_add-l
 overflow_add-l c = omega arith
@@ -24,9 +21,8 @@ loop-l-smaller c = omega arith
 pub loop-l-preserved : goal.loop-l-preserved
 loop-l-preserved c =
     let v = c.loop-l in
-    let s = c in
-    let a = s.args in
-    (omega arith, blocks_step v.l a.n (mask a.p) a.g a.tab.now a.t.now v.t c.fold_rows.new.t s.requires.1 c.fold_rows.ensures v.invariant.1)
+    let a = c.args in
+    (omega arith, blocks_step v.l a.n (mask a.p) a.g a.tab.now a.t.now v.t c.fold_rows.new.t c.requires.1 c.fold_rows.ensures v.invariant.1)
 
 pub returns : goal.returns
 returns c =

@@ -1,10 +1,7 @@
 -- `fold_table`: the first l blocks are folded, the others are as they were.
-use mathlib.Core.Path.{◌≡◌}
 use Prim.Native.Nat.{◌-◌, ◌≤◌}
-use native.Mathlib.Omega.{arith}
 use Rattle.rows.specs.Row.{mask}
 use Rattle.folding.specs.Folding.{FoldedBlocks}
-use Rattle.folding.proofs.RowLaws.{blocks_start, blocks_step}
 use Rattle.folding.proofs.fold_table.Given as goal
 
 abbrev pub invariant-loop-l : goal.invariant-loop-l

@@ -5,7 +5,6 @@ use Prim.Native.Nat.{ℕ}
 use Rattle.rows.specs.Row.{mask}
 use Rattle.elimination.specs.Place.{BasisIn}
 use Rattle.reduction.proofs.TableSearch.{empty_basis, empty_cover}
-use borrow.Author.Rules.{rules}
 use Rattle.hunt.proofs.start.Goals as goal
 
 -- No coefficients: there is no row yet.
@@ -14,11 +13,10 @@ none_yet j i = false
 
 pub insert-requires : goal.insert-requires
 insert-requires c =
-    let s = c in
-    let a = s.args in
+    let a = c.args in
     let n = a.m.states in
     let e = c.none-none in
-    (s.requires.0, s.requires.1, s.requires.3, s.requires.2, (none_yet, subst (λ p. BasisIn a.stride n 0 p none_yet a.b.now) (sym e.ensures) (empty_basis a.stride n none_yet a.b.now)), empty_cover a.stride (mask e.result) a.b.now)
+    (c.requires.0, c.requires.1, c.requires.3, c.requires.2, (none_yet, subst (λ p. BasisIn a.stride n 0 p none_yet a.b.now) (sym e.ensures) (empty_basis a.stride n none_yet a.b.now)), empty_cover a.stride (mask e.result) a.b.now)
 
 pub returns : goal.returns
 returns c =

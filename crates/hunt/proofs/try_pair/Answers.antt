@@ -12,7 +12,6 @@ use Rattle.hunt.specs.Both.{beside_of}
 use Rattle.hunt.specs.Hunt.{shared}
 use Rattle.hunt.proofs.BothLaws.{paired_sizes, paired_rows}
 use Rattle.hunt.proofs.HuntLaws.{none_known, left_known, hunting_old, new_below, hunting_new, stopped_new}
-use borrow.Author.Rules.{rules}
 use Rattle.hunt.proofs.try_pair.Goals.{After-parity, Else-is_none-2, Start}
 use Rattle.hunt.proofs.try_pair.Goals as goal
 
@@ -28,24 +27,22 @@ short s =
 -- The product has no bits.
 pub returns-then-is_none : goal.returns-then-is_none
 returns-then-is_none c =
-    let s = c in
-    let a = s.args in
+    let a = c.args in
     let m = a.m in
     let z = eqb-true (mask a.y) 0 (sym c.is_none.ensures ∙ c.if-is_none.true) in
-    ((hunting_old a.stride m.letters (beside_of a.first.now a.second.now) m.states (mask m.initial) (mask m.finals) a.b.now a.w.now a.s.count a.k a.l (mask a.s.pivots) (mask a.s.used) s.requires.1 s.requires.2 s.requires.3 (mask a.y) s.requires.4 (none_known a.stride m.states a.s.count (mask a.s.pivots) (mask a.s.used) a.b.now (mask a.y) z), omega arith), refl)
+    ((hunting_old a.stride m.letters (beside_of a.first.now a.second.now) m.states (mask m.initial) (mask m.finals) a.b.now a.w.now a.s.count a.k a.l (mask a.s.pivots) (mask a.s.used) c.requires.1 c.requires.2 c.requires.3 (mask a.y) c.requires.4 (none_known a.stride m.states a.s.count (mask a.s.pivots) (mask a.s.used) a.b.now (mask a.y) z), omega arith), refl)
 
 pub left_of-left-requires : goal.left_of-left-requires
-left_of-left-requires c = let s = c in (s.requires.1.base, lt_of_lt_of_le (short (goal.at.left_of-left-requires s).Start) (pow_mono s.requires.1.fits))
+left_of-left-requires c = (c.requires.1.base, lt_of_lt_of_le (short (goal.at.left_of-left-requires c).Start) (pow_mono c.requires.1.fits))
 
 -- Nothing is left of it.
 pub returns-then-is_none-2 : goal.returns-then-is_none-2
 returns-then-is_none-2 c =
-    let s = c in
-    let a = s.args in
+    let a = c.args in
     let m = a.m in
     let x = c.left_of-left in
     let z = eqb-true (mask x.result) 0 (sym c.is_none-2.ensures ∙ c.if-is_none-2.true) in
-    ((hunting_old a.stride m.letters (beside_of a.first.now a.second.now) m.states (mask m.initial) (mask m.finals) a.b.now a.w.now a.s.count a.k a.l (mask a.s.pivots) (mask a.s.used) s.requires.1 s.requires.2 s.requires.3 (mask a.y) s.requires.4 (left_known a.stride m.states a.s.count (mask a.s.pivots) (mask a.s.used) a.b.now (mask a.y) (short (goal.at.returns-then-is_none-2 s).Start) (mask x.result) x.ensures z), omega arith), refl)
+    ((hunting_old a.stride m.letters (beside_of a.first.now a.second.now) m.states (mask m.initial) (mask m.finals) a.b.now a.w.now a.s.count a.k a.l (mask a.s.pivots) (mask a.s.used) c.requires.1 c.requires.2 c.requires.3 (mask a.y) c.requires.4 (left_known a.stride m.states a.s.count (mask a.s.pivots) (mask a.s.used) a.b.now (mask a.y) (short (goal.at.returns-then-is_none-2 c).Start) (mask x.result) x.ensures z), omega arith), refl)
 
 -- Something is left.
 some : (c : Else-is_none-2) → 0 < mask c.left_of-left.result
@@ -55,13 +52,12 @@ some c =
 
 pub link-requires : goal.link-requires
 link-requires c =
-    let s = c in
-    let a = s.args in
+    let a = c.args in
     let m = a.m in
-    let z = paired_sizes a.first.now a.second.now m s.requires.0 in
+    let z = paired_sizes a.first.now a.second.now m c.requires.0 in
     let x = c.left_of-left in
-    let d = new_below a.stride m.letters (beside_of a.first.now a.second.now) m.states (mask m.initial) (mask m.finals) a.b.now a.w.now a.s.count a.k a.l (mask a.s.pivots) (mask a.s.used) s.requires.1 s.requires.2 s.requires.3 (mask a.y) s.requires.4 z.1 (short (goal.at.link-requires s).Start) (mask x.result) x.ensures (some (goal.at.link-requires c).Else-is_none-2) in
-    (d, omega (arith, s.requires.2), omega (arith, z.2, s.requires.3))
+    let d = new_below a.stride m.letters (beside_of a.first.now a.second.now) m.states (mask m.initial) (mask m.finals) a.b.now a.w.now a.s.count a.k a.l (mask a.s.pivots) (mask a.s.used) c.requires.1 c.requires.2 c.requires.3 (mask a.y) c.requires.4 z.1 (short (goal.at.link-requires c).Start) (mask x.result) x.ensures (some (goal.at.link-requires c).Else-is_none-2) in
+    (d, omega (arith, c.requires.2), omega (arith, z.2, c.requires.3))
 
 -- The parity says whether the new row is accepted.
 told : (c : After-parity) → mask c.args.y < 2 ^ c.args.m.states → c.parity.result ≡ shared c.args.m.states (mask c.args.y) (mask c.args.m.finals)
@@ -69,30 +65,27 @@ told c h = c.parity.ensures c.args.m.states h
 
 pub returns-then-parity : goal.returns-then-parity
 returns-then-parity c =
-    let s = c in
-    let a = s.args in
+    let a = c.args in
     let m = a.m in
-    let hn = (paired_sizes a.first.now a.second.now m s.requires.0).1 in
+    let hn = (paired_sizes a.first.now a.second.now m c.requires.0).1 in
     let x = c.left_of-left in
-    (rw c.link.ensures (stopped_new a.stride m.letters (beside_of a.first.now a.second.now) m.states (mask m.initial) (mask m.finals) a.b.now a.w.now a.s.count a.k a.l (mask a.s.pivots) (mask a.s.used) s.requires.1 s.requires.2 s.requires.3 (mask a.y) s.requires.4 hn (short (goal.at.returns-then-parity s).Start) (mask x.result) x.ensures (some (goal.at.returns-then-parity c).Else-is_none-2) (sym (told (goal.at.returns-then-parity c).After-parity (short (goal.at.returns-then-parity c).Start)) ∙ c.if-parity.true)), refl)
+    (rw c.link.ensures (stopped_new a.stride m.letters (beside_of a.first.now a.second.now) m.states (mask m.initial) (mask m.finals) a.b.now a.w.now a.s.count a.k a.l (mask a.s.pivots) (mask a.s.used) c.requires.1 c.requires.2 c.requires.3 (mask a.y) c.requires.4 hn (short (goal.at.returns-then-parity c).Start) (mask x.result) x.ensures (some (goal.at.returns-then-parity c).Else-is_none-2) (sym (told (goal.at.returns-then-parity c).After-parity (short (goal.at.returns-then-parity c).Start)) ∙ c.if-parity.true)), refl)
 
 pub extend-requires : goal.extend-requires
 extend-requires c =
-    let s = c in
-    let a = s.args in
-    let H = s.requires.1 in
-    ((paired_sizes a.first.now a.second.now a.m s.requires.0).1, H.fits, H.base, short (goal.at.extend-requires s).Start, (H.coef, H.search.basis), H.cover, c.left_of-left.ensures, some (goal.at.extend-requires c).Else-is_none-2)
+    let a = c.args in
+    let H = c.requires.1 in
+    ((paired_sizes a.first.now a.second.now a.m c.requires.0).1, H.fits, H.base, short (goal.at.extend-requires c).Start, (H.coef, H.search.basis), H.cover, c.left_of-left.ensures, some (goal.at.extend-requires c).Else-is_none-2)
 
 pub returns : goal.returns
 returns c =
-    let s = c in
-    let a = s.args in
+    let a = c.args in
     let m = a.m in
-    let hn = (paired_sizes a.first.now a.second.now m s.requires.0).1 in
+    let hn = (paired_sizes a.first.now a.second.now m c.requires.0).1 in
     let x = c.left_of-left in
     let q = c.extend in
     let r = q.result in
-    let N = q.ensures s.requires.1.coef s.requires.1.search.basis in (
-      rw c.link.ensures (hunting_new a.stride m.letters (beside_of a.first.now a.second.now) m.states (mask m.initial) (mask m.finals) a.b.now a.w.now a.s.count a.k a.l (mask a.s.pivots) (mask a.s.used) s.requires.1 s.requires.2 s.requires.3 (mask a.y) s.requires.4 hn (short (goal.at.returns s).Start) (mask x.result) x.ensures (some (goal.at.returns c).Else-is_none-2) (sym (told (goal.at.returns c).After-parity (short (goal.at.returns c).Start)) ∙ c.if-parity.false) q.new.b r.count (mask r.pivots) (mask r.used) N.0 N.1 N.2),
-      N.2.row_old a.k s.requires.2,
+    let N = q.ensures c.requires.1.coef c.requires.1.search.basis in (
+      rw c.link.ensures (hunting_new a.stride m.letters (beside_of a.first.now a.second.now) m.states (mask m.initial) (mask m.finals) a.b.now a.w.now a.s.count a.k a.l (mask a.s.pivots) (mask a.s.used) c.requires.1 c.requires.2 c.requires.3 (mask a.y) c.requires.4 hn (short (goal.at.returns c).Start) (mask x.result) x.ensures (some (goal.at.returns c).Else-is_none-2) (sym (told (goal.at.returns c).After-parity (short (goal.at.returns c).Start)) ∙ c.if-parity.false) q.new.b r.count (mask r.pivots) (mask r.used) N.0 N.1 N.2),
+      N.2.row_old a.k c.requires.2,
     )

@@ -1,10 +1,7 @@
 -- `cross`: the blocks below l are filled.
 use mathlib.Core.Path.{◌≡◌}
-use Prim.Native.Nat.{◌-◌, ◌*◌, ◌≤◌}
 use native.Mathlib.Omega.{arith}
-use Rattle.direct_sum.specs.Filled.{Filled}
 use Rattle.direct_sum.proofs.Filling.{filled_none}
-use Rattle.intersection.specs.Kron.{crossed}
 use Rattle.intersection.proofs.cross.Goals as goal
 
 pub loop-l-init : goal.loop-l-init
@@ -12,9 +9,8 @@ loop-l-init c = (omega arith, filled_none _ _ _ c.requires.4)
 
 pub cross_block-requires : goal.cross_block-requires
 cross_block-requires c =
-    let s = c in
     let v = c.loop-l in
-    (s.requires.1, s.requires.2, omega arith, λ j h. s.requires.3 v.l j (omega arith) h, v.invariant.1)
+    (c.requires.1, c.requires.2, omega arith, λ j h. c.requires.3 v.l j (omega arith) h, v.invariant.1)
 
 pub overflow_add-l : goal.overflow_add-l
 overflow_add-l c = omega arith

@@ -1,9 +1,6 @@
 -- `cross`: the blocks below l are filled.
-use mathlib.Core.Path.{◌≡◌}
 use Prim.Native.Nat.{◌-◌, ◌*◌, ◌≤◌}
-use native.Mathlib.Omega.{arith}
 use Rattle.direct_sum.specs.Filled.{Filled}
-use Rattle.direct_sum.proofs.Filling.{filled_none}
 use Rattle.intersection.specs.Kron.{crossed}
 use Rattle.intersection.proofs.cross.Given as goal
 

@@ -1,10 +1,10 @@
 -- `cross_block`: the rows below k of block l are filled.
 use mathlib.Core.Path.{◌≡◌, sym, ap₂, subst, ◌∙◌}
-use Prim.Native.Nat.{◌-◌, ◌*◌, ◌%◌, ◌^◌, ◌≤◌, ◌<◌}
+use Prim.Native.Nat.{◌*◌, ◌%◌, ◌^◌, ◌<◌}
 use native.Mathlib.Nat.{mod-le, lt_of_le_of_lt, lt_of_lt_of_le}
 use native.Mathlib.Omega.{arith}
 use Rattle.rows.specs.Row.{mask}
-use Rattle.direct_sum.proofs.Filling.{Filling, filling_start, filling_step, filling_end}
+use Rattle.direct_sum.proofs.Filling.{filling_start, filling_step, filling_end}
 use Rattle.intersection.specs.Kron.{kron, crossed}
 use Rattle.intersection.proofs.KronLaws.{positive, pair_first, pair_second}
 use Rattle.intersection.proofs.cross_block.Goals.{In-loop-k}
@@ -28,24 +28,21 @@ nonzero_div-k c = omega (arith, some c)
 
 pub load-x-requires : goal.load-x-requires
 load-x-requires c =
-    let s = c in
-    (s.requires.2, lt_of_lt_of_le (pair_first s.args.n s.args.m c.loop-k.k (inside c)) s.requires.0)
+    (c.requires.2, lt_of_lt_of_le (pair_first c.args.n c.args.m c.loop-k.k (inside c)) c.requires.0)
 
 pub nonzero_rem-k : goal.nonzero_rem-k
 nonzero_rem-k c = omega (arith, some (goal.at.nonzero_rem-k c).In-loop-k)
 
 pub load-y-requires : goal.load-y-requires
 load-y-requires c =
-    let s = c in
     let k = c.loop-k.k in
-    (s.requires.2, lt_of_le_of_lt (mod-le k s.args.m) (omega arith))
+    (c.requires.2, lt_of_le_of_lt (mod-le k c.args.m) (omega arith))
 
 pub kron-r-requires : goal.kron-r-requires
 kron-r-requires c =
-    let s = c in
-    let a = s.args in
+    let a = c.args in
     let k = c.loop-k.k in
-    (s.requires.0, s.requires.1, subst (λ v. v < 2 ^ a.m) (sym c.load-y.ensures) (s.requires.3 (k % a.m) (pair_second a.n a.m k (inside (goal.at.kron-r-requires c).In-loop-k))))
+    (c.requires.0, c.requires.1, subst (λ v. v < 2 ^ a.m) (sym c.load-y.ensures) (c.requires.3 (k % a.m) (pair_second a.n a.m k (inside (goal.at.kron-r-requires c).In-loop-k))))
 
 pub store-requires : goal.store-requires
 store-requires c = omega arith
@@ -59,12 +56,10 @@ loop-k-smaller c = omega arith
 pub loop-k-preserved : goal.loop-k-preserved
 loop-k-preserved c =
     let v = c.loop-k in
-    let s = c in
-    let a = s.args in
-    let y = c in (
+    let a = c.args in (
       omega arith,
-      filling_step v.k a.l (a.n * a.m) (crossed a.t.now a.u.now a.n a.m) v.out c.store.new.t (mask y.kron-r.result) (inside (goal.at.overflow_add-k c).In-loop-k) s.requires.1 s.requires.2
-          (y.kron-r.ensures ∙ ap₂ (kron a.n a.m) y.load-x.ensures y.load-y.ensures) c.store.ensures v.invariant.1,
+      filling_step v.k a.l (a.n * a.m) (crossed a.t.now a.u.now a.n a.m) v.out c.store.new.t (mask c.kron-r.result) (inside (goal.at.overflow_add-k c).In-loop-k) c.requires.1 c.requires.2
+          (c.kron-r.ensures ∙ ap₂ (kron a.n a.m) c.load-x.ensures c.load-y.ensures) c.store.ensures v.invariant.1,
     )
 
 pub returns : goal.returns

@@ -1,12 +1,7 @@
 -- `cross_block`: the rows below k of block l are filled.
-use mathlib.Core.Path.{◌≡◌, sym, ap₂, subst, ◌∙◌}
-use Prim.Native.Nat.{◌-◌, ◌*◌, ◌%◌, ◌^◌, ◌≤◌, ◌<◌}
-use native.Mathlib.Nat.{mod-le, lt_of_le_of_lt, lt_of_lt_of_le}
-use native.Mathlib.Omega.{arith}
-use Rattle.rows.specs.Row.{mask}
-use Rattle.direct_sum.proofs.Filling.{Filling, filling_start, filling_step, filling_end}
-use Rattle.intersection.specs.Kron.{kron, crossed}
-use Rattle.intersection.proofs.KronLaws.{positive, pair_first, pair_second}
+use Prim.Native.Nat.{◌-◌, ◌*◌, ◌≤◌}
+use Rattle.direct_sum.proofs.Filling.{Filling}
+use Rattle.intersection.specs.Kron.{crossed}
 use Rattle.intersection.proofs.cross_block.Given as goal
 
 abbrev pub invariant-loop-k : goal.invariant-loop-k

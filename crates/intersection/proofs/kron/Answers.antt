@@ -1,19 +1,18 @@
 -- `kron`: the product over the bits of x below p.
 use mathlib.Core.Path.{◌≡◌, sym, ap₂, ◌∙◌}
 use mathlib.Core.Bool.{cond}
-use Prim.Native.Nat.{◌-◌, ◌*◌, ◌≤◌, ◌<◌}
+use Prim.Native.Nat.{◌*◌, ◌<◌}
 use native.Mathlib.Omega.{arith}
 use lib.Bits.{bit_xor}
 use Rattle.rows.specs.Row.{width, mask}
 use Rattle.intersection.specs.Kron.{kron}
 use Rattle.intersection.proofs.KronLaws.{group_start, group_fits, kron_none, kron_step}
-use borrow.Author.Rules.{rules}
 use Rattle.intersection.proofs.kron.Goals.{In-loop-p}
 use Rattle.intersection.proofs.kron.Goals as goal
 
 -- Where group p starts.
 start : (c : In-loop-p) → c.loop-p.p * c.args.m < width
-start c = let s = c in group_start s.args.n s.args.m c.loop-p.p (omega arith) s.requires.1
+start c = group_start c.args.n c.args.m c.loop-p.p (omega arith) c.requires.1
 
 pub loop-p-init : goal.loop-p-init
 loop-p-init c = let a = c.args in (omega arith, c.none-r.ensures ∙ sym (kron_none a.m (mask a.x) (mask a.y)))
@@ -23,8 +22,7 @@ overflow_mul-p c = omega (arith, start c)
 
 pub moved-z-requires : goal.moved-z-requires
 moved-z-requires c =
-    let s = c in
-    (start c, group_fits s.args.n s.args.m (mask s.args.y) c.loop-p.p s.requires.2 (omega arith) s.requires.1)
+    (start c, group_fits c.args.n c.args.m (mask c.args.y) c.loop-p.p c.requires.2 (omega arith) c.requires.1)
 
 pub has-b-requires : goal.has-b-requires
 has-b-requires c = omega arith

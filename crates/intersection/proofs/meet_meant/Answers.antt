@@ -14,7 +14,6 @@ use Rattle.record.specs.Claims.{Operands}
 use Rattle.operands.proofs.PairLaws.{both_passed}
 use Rattle.results.specs.Results.{pair_refusal}
 use Rattle.intersection.proofs.MeetLaws.{meet_held, meet_refused, meet_over, within, meet_refuses, meet_gives}
-use borrow.Author.Rules.{rules}
 use Rattle.intersection.proofs.meet_meant.Goals.{After-minimal_form-h, In-Both}
 use Rattle.intersection.proofs.meet_meant.Goals as goal
 
@@ -52,45 +51,39 @@ overflow_mul-d c = omega (arith, mul-le-mul c.minimal_form-g.ensures.1.bounded.s
 
 pub returns-then-d-gt-MAX_PRODUCT : goal.returns-then-d-gt-MAX_PRODUCT
 returns-then-d-gt-MAX_PRODUCT c =
-    let h = c in
-    let a = h.args in
+    let a = c.args in
     let bs = a.first.now in
     let cs = a.second.now in
     let buf = a.out.now in
-    let d = h.minimal_form-g.result.states * h.minimal_form-h.result.states in
-    let o = meet_over bs cs (length buf) (passed (goal.at.returns-then-d-gt-MAX_PRODUCT h).In-Both) d (dimensions (goal.at.returns-then-d-gt-MAX_PRODUCT h).After-minimal_form-h) (omega arith) in
+    let d = c.minimal_form-g.result.states * c.minimal_form-h.result.states in
+    let o = meet_over bs cs (length buf) (passed (goal.at.returns-then-d-gt-MAX_PRODUCT c).In-Both) d (dimensions (goal.at.returns-then-d-gt-MAX_PRODUCT c).After-minimal_form-h) (omega arith) in
     let p = meet_refuses bs cs buf 10 0 d (Refused 10 0 d) o refl in
     record { answer = p.0; buffer = p.1.0; claims = p.1.1 }
 
 pub product-m-requires : goal.product-m-requires
 product-m-requires c =
-    let k = c in
-    let h = k.minimal_form-h in
-    let g = k.minimal_form-g in (
+    let h = c.minimal_form-h in
+    let g = c.minimal_form-g in (
       subst (λ a. Bounded a g.new.out g.result.states (mask g.result.initial) (mask g.result.finals)) (sym g.ensures.0) g.ensures.1.bounded,
       subst (λ a. Bounded a h.new.out h.result.states (mask h.result.initial) (mask h.result.finals)) (sym h.ensures.0) h.ensures.1.bounded,
-      h.ensures.0 ∙ sym (passed (goal.at.product-m-requires k).In-Both).2 ∙ sym g.ensures.0,
+      h.ensures.0 ∙ sym (passed (goal.at.product-m-requires c).In-Both).2 ∙ sym g.ensures.0,
       omega arith,
       refl,
     )
 
 pub finish-requires : goal.finish-requires
 finish-requires c =
-    let k = c in
-    (k.product-m.ensures.valid, k.minimal_form-g.ensures.1.bounded.size)
+    (c.product-m.ensures.valid, c.minimal_form-g.ensures.1.bounded.size)
 
 pub returns : goal.returns
 returns c =
-    let k = c in
-    let h = k in
-    let g = h in
-    let a = g.args in
+    let a = c.args in
     let bs = a.first.now in
     let cs = a.second.now in
     let buf = a.out.now in
     let f = c.finish in
-    let s = k.product-m.new.s in
-    let built = meet_held (letters_of bs) g.minimal_form-g.result.letters bs cs g.minimal_form-g.new.out h.minimal_form-h.new.out s g.minimal_form-g.result h.minimal_form-h.result k.product-m.result g.minimal_form-g.ensures.0 g.minimal_form-g.ensures.1 (second (goal.at.returns h).After-minimal_form-h) k.product-m.ensures in
-    let small = within bs cs (passed (goal.at.returns g).In-Both) (g.minimal_form-g.result.states * h.minimal_form-h.result.states) (dimensions (goal.at.returns h).After-minimal_form-h) (omega (arith, k.if-d-gt-MAX_PRODUCT.false)) in
-    let p = meet_gives bs cs buf s k.product-m.result f.new.out f.result (passed (goal.at.returns g).In-Both, small) built f.ensures.answer f.ensures.buffer in
+    let s = c.product-m.new.s in
+    let built = meet_held (letters_of bs) c.minimal_form-g.result.letters bs cs c.minimal_form-g.new.out c.minimal_form-h.new.out s c.minimal_form-g.result c.minimal_form-h.result c.product-m.result c.minimal_form-g.ensures.0 c.minimal_form-g.ensures.1 (second (goal.at.returns c).After-minimal_form-h) c.product-m.ensures in
+    let small = within bs cs (passed (goal.at.returns c).In-Both) (c.minimal_form-g.result.states * c.minimal_form-h.result.states) (dimensions (goal.at.returns c).After-minimal_form-h) (omega (arith, c.if-d-gt-MAX_PRODUCT.false)) in
+    let p = meet_gives bs cs buf s c.product-m.result f.new.out f.result (passed (goal.at.returns c).In-Both, small) built f.ensures.answer f.ensures.buffer in
     record { answer = p.0; buffer = p.1.0; claims = p.1.1 }

@@ -4,17 +4,16 @@ use Rattle.text.specs.Text.{decimal}
 use Rattle.text.proofs.Decimal.{decimal_length}
 use Rattle.lines.specs.Lines.{opening}
 use Rattle.lines.proofs.Building.{begun_first, begun_more}
-use borrow.Author.Rules.{rules}
 use Rattle.lines.proofs.begin.Goals as goal
 
 pub put_number-a-requires : goal.put_number-a-requires
-put_number-a-requires c = let s = c in omega (arith, decimal_length s.args.index s.ranges.index.fits)
+put_number-a-requires c = omega (arith, decimal_length c.args.index c.ranges.index.fits)
 
 pub put-b-requires : goal.put-b-requires
-put-b-requires c = let s = c in omega (arith, decimal_length s.args.index s.ranges.index.fits, c.put_number-a.ensures.0)
+put-b-requires c = omega (arith, decimal_length c.args.index c.ranges.index.fits, c.put_number-a.ensures.0)
 
 pub put_number-requires : goal.put_number-requires
-put_number-requires c = let s = c in omega (arith, decimal_length s.args.index s.ranges.index.fits, decimal_length s.args.n s.ranges.n.fits, c.put_number-a.ensures.0, c.put-b.ensures.0)
+put_number-requires c = omega (arith, decimal_length c.args.index c.ranges.index.fits, decimal_length c.args.n c.ranges.n.fits, c.put_number-a.ensures.0, c.put-b.ensures.0)
 
 pub returns : goal.returns
 unfolding opening

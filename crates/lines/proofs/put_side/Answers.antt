@@ -1,5 +1,4 @@
 -- `put_side`: case by case.
-use borrow.Author.Rules.{rules}
 use Rattle.lines.proofs.put_side.Goals as goal
 
 pub returns-in-First : goal.returns-in-First

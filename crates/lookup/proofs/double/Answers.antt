@@ -38,9 +38,8 @@ loop-v-smaller c = omega arith
 pub loop-v-preserved : goal.loop-v-preserved
 loop-v-preserved c =
     let v = c.loop-v in
-    let s = c in
-    let a = s.args in
-    (omega arith, doubled_step a.at a.h v.v a.x.bits a.tab.now v.tab (omega arith) (omega (arith, s.requires.0, s.requires.1)) v.invariant.1)
+    let a = c.args in
+    (omega arith, doubled_step a.at a.h v.v a.x.bits a.tab.now v.tab (omega arith) (omega (arith, c.requires.0, c.requires.1)) v.invariant.1)
 
 pub returns : goal.returns
 unfolding mask

@@ -15,9 +15,8 @@ loop-g-init c = (omega arith, tabled_none _ _, refl)
 
 pub fill_group-requires : goal.fill_group-requires
 fill_group-requires c =
-    let s = c in
     let v = c.loop-g in
-    (s.requires.0, s.requires.1, s.requires.2, omega (arith, c.loop-g-test.true, c.span.ensures.0), v.invariant.2 ∙ s.requires.3)
+    (c.requires.0, c.requires.1, c.requires.2, omega (arith, c.loop-g-test.true, c.span.ensures.0), v.invariant.2 ∙ c.requires.3)
 
 pub overflow_add-g : goal.overflow_add-g
 overflow_add-g c = omega (arith, c.loop-g-test.true, c.span.ensures.0)

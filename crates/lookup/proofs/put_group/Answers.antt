@@ -24,10 +24,9 @@ double-requires-4 c = (omega (arith, c.requires.0), c.double-3.ensures.size ∙ 
 
 pub returns : goal.returns
 returns c =
-    let s = c in
-    let a = s.args in
+    let a = c.args in
     let d₁ = c.double in
     let d₂ = c.double-2 in
     let d₃ = c.double-3 in
     let d₄ = c.double-4 in
-    λ M h₀ h₁ h₂ h₃. grouped a.g M a.tab.now (set a.tab.now (a.g * 16) 0) d₁.new.tab d₂.new.tab d₃.new.tab d₄.new.tab (mask a.x0) (mask a.x1) (mask a.x2) (mask a.x3) s.requires.1 (omega (arith, s.requires.0)) refl h₀ h₁ h₂ h₃ d₁.ensures d₂.ensures d₃.ensures d₄.ensures
+    λ M h₀ h₁ h₂ h₃. grouped a.g M a.tab.now (set a.tab.now (a.g * 16) 0) d₁.new.tab d₂.new.tab d₃.new.tab d₄.new.tab (mask a.x0) (mask a.x1) (mask a.x2) (mask a.x3) c.requires.1 (omega (arith, c.requires.0)) refl h₀ h₁ h₂ h₃ d₁.ensures d₂.ensures d₃.ensures d₄.ensures

@@ -24,8 +24,7 @@ use Rattle.marking.proofs.answer_line.Goals as goal
 -- The answer has bytes, so it stands for itself.
 meant : (c : After-compare) → meant_over (letters_of c.args.key.now) c.args.answer.now ≡ c.args.answer.now
 meant c =
-    let s = c in
-    sym (meant_itself (letters_of s.args.key.now) s.args.answer.now (λ none. omega (arith, s.requires.1)))
+    sym (meant_itself (letters_of c.args.key.now) c.args.answer.now (λ none. omega (arith, c.requires.1)))
 
 -- What the comparison tells, with room for 64 letters.
 verdict : (c : After-compare) → Case c.args.key.now c.args.answer.now 64 c.compare.result
@@ -43,9 +42,8 @@ found c = subst (Case c.args.key.now c.args.answer.now 64) c.in-Differs.is (verd
 is_word : (c : In-Differs) → take c.in-Differs.length c.compare.new.word ≡ (found c).difference.word
 is_word c =
     let f = found c in
-    let d = c in
-    let a = d.args in
-    ap (take c.in-Differs.length) (d.compare.ensures.buffer ∙ ap (λ x. buffer_in (compare_outcome a.key.now x) (replicate 64 0)) (meant (goal.at.dimension-own-requires d).After-compare))
+    let a = c.args in
+    ap (take c.in-Differs.length) (c.compare.ensures.buffer ∙ ap (λ x. buffer_in (compare_outcome a.key.now x) (replicate 64 0)) (meant (goal.at.dimension-own-requires c).After-compare))
     ∙ outcome_take (compare_outcome a.key.now a.answer.now 64) f.difference.word (replicate 64 0) c.in-Differs.length f.written f.count
 
 pub dimension-d-requires : goal.dimension-d-requires

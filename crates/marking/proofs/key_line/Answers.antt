@@ -4,7 +4,6 @@ use Rattle.record.specs.Record.{WellFormed}
 use Rattle.lines.specs.Lines.{key_line}
 use Rattle.marking.proofs.Cases.{key_good, key_refused}
 use Rattle.lines.proofs.Building.{begins_as}
-use borrow.Author.Rules.{rules}
 use Rattle.marking.proofs.key_line.Goals.{In-Good}
 use Rattle.marking.proofs.key_line.Goals as goal
 

@@ -4,7 +4,6 @@ use native.Mathlib.Omega.{arith}
 use lib.ListN.{length}
 use Rattle.record.specs.Outcome.{answer_of, buffer_of, fit}
 use Rattle.lines.proofs.Building.{begins_within}
-use borrow.Author.Rules.{rules}
 use Rattle.marking.proofs.line_at.Goals as goal
 
 pub returns : goal.returns

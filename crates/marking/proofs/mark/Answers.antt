@@ -6,7 +6,6 @@ use Rattle.record.specs.Outcome.{answer_of, buffer_of, fit}
 use Rattle.lines.specs.Lines.{longest}
 use Rattle.marking.specs.Marking.{line_at, mark_line, mark_outcome}
 use Rattle.marking.proofs.ToldLaws.{marks}
-use borrow.Author.Rules.{rules}
 use Rattle.marking.proofs.mark.Goals as goal
 
 pub returns : goal.returns

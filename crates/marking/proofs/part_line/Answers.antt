@@ -7,7 +7,6 @@ use Rattle.script.proofs.Parts.{Stands, whole_stands}
 use Rattle.script.proofs.Whole.{length_whole}
 use Rattle.marking.specs.Marking.{part_line}
 use Rattle.lines.proofs.Building.{begins_none, begins_as}
-use borrow.Author.Rules.{rules}
 use Rattle.marking.proofs.part_line.Goals.{In-Whole}
 use Rattle.marking.proofs.part_line.Goals as goal
 
@@ -29,8 +28,7 @@ slice_bounds-record_line-end c = (stands (goal.at.slice_bounds-record_line-count
 
 pub record_line-requires : goal.record_line-requires
 record_line-requires c =
-    let k = c in
-    (k.requires, omega (arith, (stands (goal.at.record_line-requires k).In-Whole).long, length_whole _ _ _ _ (sym (whole (goal.at.record_line-requires k).In-Whole))))
+    (c.requires, omega (arith, (stands (goal.at.record_line-requires c).In-Whole).long, length_whole _ _ _ _ (sym (whole (goal.at.record_line-requires c).In-Whole))))
 
 pub returns-in-Whole : goal.returns-in-Whole
 returns-in-Whole c =

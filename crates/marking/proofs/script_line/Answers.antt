@@ -4,14 +4,12 @@ use native.Mathlib.Omega.{arith}
 use Rattle.lines.specs.Lines.{too_long_line}
 use Rattle.marking.proofs.Cases.{long_first, long_later, line_part}
 use Rattle.lines.proofs.Building.{begun_first, begun_line, begins_none, begins_as}
-use borrow.Author.Rules.{rules}
 use Rattle.marking.proofs.script_line.Goals as goal
 
 pub returns-then-index-eq0 : goal.returns-then-index-eq0
 returns-then-index-eq0 c =
-    let s = c in
-    begins_as (sym (long_first s.args.script.now s.args.index s.args.at (omega arith) c.if-index-eq0.true))
-    (begun_line {before = s.args.line.now} (begun_first too_long_line c.put.ensures) (omega (arith, s.requires)))
+    begins_as (sym (long_first c.args.script.now c.args.index c.args.at (omega arith) c.if-index-eq0.true))
+    (begun_line {before = c.args.line.now} (begun_first too_long_line c.put.ensures) (omega (arith, c.requires)))
 
 pub returns-then-script-gt-MAX_SCRIPT : goal.returns-then-script-gt-MAX_SCRIPT
 returns-then-script-gt-MAX_SCRIPT c =

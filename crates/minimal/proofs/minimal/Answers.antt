@@ -11,7 +11,6 @@ use Rattle.record.specs.Outcome.{answer_of, buffer_of, refusal_of}
 use Rattle.record.proofs.Claims.{dimension_fits}
 use Rattle.minimal.specs.Minimal.{minimal_outcome, minimised_as}
 use Rattle.minimal.proofs.MinimalLaws.{minimal_claims, minimal_refused, minimal_written}
-use borrow.Author.Rules.{rules}
 use Rattle.minimal.proofs.minimal.Goals.{After-minimal_form-m, In-Good}
 use Rattle.minimal.proofs.minimal.Goals as goal
 

@@ -9,7 +9,6 @@ use Rattle.minimisation.specs.Minimises.{Minimises}
 use Rattle.minimisation.proofs.MinimiseLaws.{minimises_same}
 use Rattle.record.specs.Record.{letters_of, automaton_of}
 use Rattle.record.proofs.Held.{bits_held}
-use borrow.Author.Rules.{rules}
 use Rattle.minimal.proofs.minimal_form.Goals as goal
 
 pub minimise-requires : goal.minimise-requires
@@ -17,11 +16,10 @@ minimise-requires c = (c.read-m.ensures.valid, refl, c.requires.1)
 
 pub returns : goal.returns
 returns c =
-    let k = c in
-    let bs = k.args.bytes.now in
-    let t = k.read-m.new.t in
-    let m = k.read-m.result in
-    let h = k.read-m.ensures in
+    let bs = c.args.bytes.now in
+    let t = c.read-m.new.t in
+    let m = c.read-m.result in
+    let h = c.read-m.ensures in
     let s = c.minimise.new.c in
     let r = c.minimise.result in
     let e = c.minimise.ensures in

@@ -1,5 +1,4 @@
 -- `with_dimension`: case by case.
-use borrow.Author.Rules.{rules}
 use Rattle.minimal.proofs.with_dimension.Goals as goal
 
 pub returns-in-Done : goal.returns-in-Done

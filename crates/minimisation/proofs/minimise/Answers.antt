@@ -8,25 +8,22 @@ use Rattle.minimisation.proofs.minimise.Goals as goal
 
 pub transposed-requires : goal.transposed-requires
 transposed-requires c =
-    let s = c in
-    (s.requires.0.letters, s.requires.0.states, s.requires.0.rows, s.requires.2)
+    (c.requires.0.letters, c.requires.0.states, c.requires.0.rows, c.requires.2)
 
 pub explore-s-requires : goal.explore-s-requires
 explore-s-requires c =
-    let s = c in
-    let a = s.args in
+    let a = c.args in
     let u = c.transposed in
-    (transposed_bounded a.m.letters a.m.states (mask a.m.initial) (mask a.m.finals) a.t.now u.new.c s.requires.0 u.ensures, s.requires.1)
+    (transposed_bounded a.m.letters a.m.states (mask a.m.initial) (mask a.m.finals) a.t.now u.new.c c.requires.0 u.ensures, c.requires.1)
 
 pub fold-g-requires : goal.fold-g-requires
 fold-g-requires c =
-    let s = c in
-    let m = s.args.m in
+    let m = c.args.m in
     let u = c.transposed in
     let x = c.explore-s in
     let r = x.result in
     let X = x.ensures in
-    (s.requires.0, X.found.base, X.found.basis.unit, explored_low m.letters u.new.c m.states (mask m.finals) (mask m.initial) x.new.b r.count (mask r.pivots) (mask r.used) X, u.ensures.size)
+    (c.requires.0, X.found.base, X.found.basis.unit, explored_low m.letters u.new.c m.states (mask m.finals) (mask m.initial) x.new.b r.count (mask r.pivots) (mask r.used) X, u.ensures.size)
 
 pub reduce-requires : goal.reduce-requires
 reduce-requires c =

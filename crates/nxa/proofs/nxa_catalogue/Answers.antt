@@ -5,7 +5,6 @@ use Rattle.record.specs.Outcome.{answer_in}
 use Rattle.catalogue.specs.Entries.{catalogue_of, GivesEntry}
 use Rattle.replies.specs.Reply.{of_written, written_in}
 use Rattle.nxa.proofs.Granted.{catalogue_numbers, catalogue_among, written_readable, told}
-use borrow.Author.Rules.{rules}
 use Rattle.nxa.proofs.nxa_catalogue.Goals as goal
 
 pub returns : goal.returns

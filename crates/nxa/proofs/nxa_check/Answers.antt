@@ -2,7 +2,6 @@
 use mathlib.Core.Path.{ap, ◌∙◌}
 use Rattle.replies.specs.Reply.{of_checked}
 use Rattle.nxa.proofs.Granted.{check_number, check_granted, check_grants}
-use borrow.Author.Rules.{rules}
 use Rattle.nxa.proofs.nxa_check.Goals as goal
 
 pub returns : goal.returns

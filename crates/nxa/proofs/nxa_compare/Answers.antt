@@ -6,7 +6,6 @@ use Rattle.compare.specs.Compare.{compare_answer, Compares}
 use Rattle.replies.specs.Reply.{of_compared, compared_in}
 use Rattle.nxa.proofs.Granted.{told}
 use Rattle.nxa.proofs.Compared.{compare_numbers, compared_readable}
-use borrow.Author.Rules.{rules}
 use Rattle.nxa.proofs.nxa_compare.Goals as goal
 
 pub returns : goal.returns

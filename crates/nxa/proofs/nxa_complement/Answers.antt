@@ -6,7 +6,6 @@ use Rattle.operations.specs.Operations.{complement_outcome, Complements}
 use Rattle.replies.specs.Reply.{of_written, written_in}
 use Rattle.nxa.proofs.Granted.{written_readable, told}
 use Rattle.nxa.proofs.Operations.{complement_numbers, complement_among}
-use borrow.Author.Rules.{rules}
 use Rattle.nxa.proofs.nxa_complement.Goals as goal
 
 pub returns : goal.returns

@@ -9,7 +9,6 @@ use Rattle.marking.specs.Marking.{mark_line, mark_outcome}
 use Rattle.marking.specs.Told.{Marks, SaysRefused}
 use Rattle.replies.specs.Reply.{of_written, written_in}
 use Rattle.nxa.proofs.Granted.{mark_numbers, mark_among, written_readable, told}
-use borrow.Author.Rules.{rules}
 use Rattle.nxa.proofs.nxa_mark.Goals as goal
 
 pub returns : goal.returns

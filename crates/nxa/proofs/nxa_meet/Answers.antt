@@ -8,7 +8,6 @@ use Rattle.intersection.specs.Meet.{meet_outcome, Meets}
 use Rattle.replies.specs.Reply.{of_written, written_in}
 use Rattle.nxa.proofs.Granted.{written_readable, told}
 use Rattle.nxa.proofs.Operations.{meet_numbers, meet_among}
-use borrow.Author.Rules.{rules}
 use Rattle.nxa.proofs.nxa_meet.Goals as goal
 
 pub returns : goal.returns

@@ -6,7 +6,6 @@ use Rattle.record.specs.Record.{letters_of, automaton_of}
 use Rattle.minimal.specs.Minimal.{minimal_outcome, minimal_answer, GivesMinimal}
 use Rattle.replies.specs.Reply.{of_minimised, minimised_in}
 use Rattle.nxa.proofs.Granted.{minimal_numbers, minimal_among, minimised_readable, told}
-use borrow.Author.Rules.{rules}
 use Rattle.nxa.proofs.nxa_minimal.Goals as goal
 
 pub returns : goal.returns

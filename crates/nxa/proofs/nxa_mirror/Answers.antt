@@ -6,7 +6,6 @@ use Rattle.operations.specs.Operations.{mirror_outcome, Mirrors}
 use Rattle.replies.specs.Reply.{of_written, written_in}
 use Rattle.nxa.proofs.Granted.{written_readable, told}
 use Rattle.nxa.proofs.Operations.{mirror_numbers, mirror_among}
-use borrow.Author.Rules.{rules}
 use Rattle.nxa.proofs.nxa_mirror.Goals as goal
 
 pub returns : goal.returns

@@ -8,7 +8,6 @@ use Rattle.operations.specs.Operations.{product_outcome, GivesProduct}
 use Rattle.replies.specs.Reply.{of_written, written_in}
 use Rattle.nxa.proofs.Granted.{written_readable, told}
 use Rattle.nxa.proofs.Operations.{product_numbers, product_among}
-use borrow.Author.Rules.{rules}
 use Rattle.nxa.proofs.nxa_product.Goals as goal
 
 pub returns : goal.returns

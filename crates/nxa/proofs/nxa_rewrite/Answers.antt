@@ -4,7 +4,6 @@ use lib.ListN.{length}
 use Rattle.record.specs.Outcome.{answer_in, rewrite_of}
 use Rattle.replies.specs.Reply.{of_written, written_in}
 use Rattle.nxa.proofs.Granted.{rewrite_numbers, rewrite_among, written_readable, told}
-use borrow.Author.Rules.{rules}
 use Rattle.nxa.proofs.nxa_rewrite.Goals as goal
 
 -- It has no claims beside the answer and the buffer.

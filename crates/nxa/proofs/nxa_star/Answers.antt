@@ -6,7 +6,6 @@ use Rattle.star.specs.Star.{star_outcome, GivesStar}
 use Rattle.replies.specs.Reply.{of_written, written_in}
 use Rattle.nxa.proofs.Granted.{written_readable, told}
 use Rattle.nxa.proofs.Operations.{star_numbers, star_among}
-use borrow.Author.Rules.{rules}
 use Rattle.nxa.proofs.nxa_star.Goals as goal
 
 pub returns : goal.returns

@@ -8,7 +8,6 @@ use Rattle.operations.specs.Operations.{sum_outcome, Sums}
 use Rattle.replies.specs.Reply.{of_written, written_in}
 use Rattle.nxa.proofs.Granted.{written_readable, told}
 use Rattle.nxa.proofs.Operations.{sum_numbers, sum_among}
-use borrow.Author.Rules.{rules}
 use Rattle.nxa.proofs.nxa_sum.Goals as goal
 
 pub returns : goal.returns

@@ -3,7 +3,6 @@ use Rattle.record.proofs.Numbers.{check_numbers}
 use Rattle.testing.specs.Testing.{test_of, Tests}
 use Rattle.replies.specs.Reply.{of_tested, tested_in}
 use Rattle.nxa.proofs.Granted.{tested_readable, told}
-use borrow.Author.Rules.{rules}
 use Rattle.nxa.proofs.nxa_test.Goals as goal
 
 -- No buffer is lent.

@@ -15,19 +15,17 @@ none_yet j i = false
 
 pub insert-s-requires : goal.insert-s-requires
 insert-s-requires c =
-    let s = c in
-    let a = s.args in
+    let a = c.args in
     let n = a.m.states in
     let e = c.none-none in
-    (s.requires.0.states, s.requires.0.states, omega (arith, s.requires.1), s.requires.0.initial, (none_yet, subst (λ p. BasisIn width n 0 p none_yet a.b.now) (sym e.ensures) (empty_basis width n none_yet a.b.now)), empty_cover width (mask e.result) a.b.now)
+    (c.requires.0.states, c.requires.0.states, omega (arith, c.requires.1), c.requires.0.initial, (none_yet, subst (λ p. BasisIn width n 0 p none_yet a.b.now) (sym e.ensures) (empty_basis width n none_yet a.b.now)), empty_cover width (mask e.result) a.b.now)
 
 pub explore_rows-requires : goal.explore_rows-requires
 explore_rows-requires c =
-    let s = c in
-    let a = s.args in
+    let a = c.args in
     let m = a.m in
     let q = c.insert-s in
     let r = q.result in
     let e = rw c.none-none.ensures at q.ensures in
     let P = e none_yet (empty_basis width m.states none_yet a.b.now) in
-    (s.requires.0, found_start m.letters a.t.now m.states (mask m.initial) (mask m.finals) a.b.now q.new.b r.count (mask r.pivots) (mask r.used) s.requires.1 none_yet P.0 P.1 P.2)
+    (c.requires.0, found_start m.letters a.t.now m.states (mask m.initial) (mask m.finals) a.b.now q.new.b r.count (mask r.pivots) (mask r.used) c.requires.1 none_yet P.0 P.1 P.2)

@@ -22,10 +22,9 @@ loop-r-init c = (c.requires.1, λ k t. absurd (true≢false (sym t ∙ ap (λ x.
 -- There are at most as many rows as a row has bits.
 few : (c : At-loop-r) → c.loop-r.r.count ≤ width
 few c =
-    let s = c in
-    let a = s.args in
+    let a = c.args in
     let v = c.loop-r in
-    found_bound a.m.letters a.t.now a.m.states (mask a.m.initial) (mask a.m.finals) s.requires.0 v.b v.r.count (mask v.r.pivots) (mask v.r.used) v.invariant.0
+    found_bound a.m.letters a.t.now a.m.states (mask a.m.initial) (mask a.m.finals) c.requires.0 v.b v.r.count (mask v.r.pivots) (mask v.r.used) v.invariant.0
 
 pub below-requires : goal.below-requires
 below-requires c = few (goal.at.below-requires c).At-loop-r
@@ -40,37 +39,31 @@ those c =
 pub returns-then-is_none : goal.returns-then-is_none
 returns-then-is_none c =
     let v = c.loop-r in
-    let x = c in
-    let none = no_bit (mask x.xor-todo.result) c.is_none.ensures c.if-is_none.true in
-    record { found = v.invariant.0; enough = inl (λ k h. (v.invariant.1 k (none_left v.r.count (mask v.done) (mask x.xor-todo.result) (those (goal.at.returns-then-is_none x).After-xor-todo) none k h)).1) }
+    let none = no_bit (mask c.xor-todo.result) c.is_none.ensures c.if-is_none.true in
+    record { found = v.invariant.0; enough = inl (λ k h. (v.invariant.1 k (none_left v.r.count (mask v.done) (mask c.xor-todo.result) (those (goal.at.returns-then-is_none c).After-xor-todo) none k h)).1) }
 
 pub next-k-requires : goal.next-k-requires
 next-k-requires c =
-    let x = c in
-    (some_bit (mask x.xor-todo.result) c.is_none.ensures c.if-is_none.false, (those (goal.at.next-k-requires x).After-xor-todo).left_low, few (goal.at.next-k-requires x).At-loop-r)
+    (some_bit (mask c.xor-todo.result) c.is_none.ensures c.if-is_none.false, (those (goal.at.next-k-requires c).After-xor-todo).left_low, few (goal.at.next-k-requires c).At-loop-r)
 
 pub explore_row-r-requires : goal.explore_row-r-requires
 explore_row-r-requires c =
-    let l = c in
-    (l.requires.0, l.loop-r.invariant.0, c.next-k.ensures.0)
+    (c.requires.0, c.loop-r.invariant.0, c.next-k.ensures.0)
 
 pub unit-requires : goal.unit-requires
 unit-requires c = omega (arith, c.next-k.ensures.0, few (goal.at.unit-requires c).At-loop-r)
 
 pub loop-r-smaller : goal.loop-r-smaller
 loop-r-smaller c =
-    let x = c in
-    let l = x in
-    let v = l.loop-r in
+    let v = c.loop-r in
     let k = c.next-k in
-    let low = lt_of_lt_of_le (those (goal.at.loop-r-smaller x).After-xor-todo).tried_low (pow_mono (few (goal.at.loop-r-smaller l).At-loop-r)) in
-    omega (arith, low, tried_rises (mask v.done) k.result (mask c.unit.result) (mask c.or-done.result) c.unit.ensures c.or-done.ensures v.r.count (mask x.xor-todo.result) (those (goal.at.loop-r-smaller x).After-xor-todo) k.ensures.0 k.ensures.1)
+    let low = lt_of_lt_of_le (those (goal.at.loop-r-smaller c).After-xor-todo).tried_low (pow_mono (few (goal.at.loop-r-smaller c).At-loop-r)) in
+    omega (arith, low, tried_rises (mask v.done) k.result (mask c.unit.result) (mask c.or-done.result) c.unit.ensures c.or-done.ensures v.r.count (mask c.xor-todo.result) (those (goal.at.loop-r-smaller c).After-xor-todo) k.ensures.0 k.ensures.1)
 
 pub loop-r-preserved : goal.loop-r-preserved
 loop-r-preserved c =
-    let l = c in
-    let v = l.loop-r in
-    let a = l.args in
+    let v = c.loop-r in
+    let a = c.args in
     let m = a.m in
     let k = c.next-k in
     let e = c.explore_row-r in
@@ -83,7 +76,6 @@ loop-r-preserved c =
 -- As many are found as there are states.
 pub returns : goal.returns
 returns c =
-    let l = c in
-    let v = l.loop-r in
-    let a = l.args in
+    let v = c.loop-r in
+    let a = c.args in
     record { found = v.invariant.0; enough = inr (omega (arith, count_bound width a.m.states v.r.count (mask v.r.pivots) v.invariant.0.coef v.b v.invariant.0.basis)) }

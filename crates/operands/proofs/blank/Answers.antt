@@ -2,7 +2,6 @@
 use mathlib.Core.Path.{ap, ◌∙◌}
 use Rattle.operands.specs.Meant.{blank_of}
 use Rattle.operands.proofs.MeantLaws.{blank_bytes}
-use borrow.Author.Rules.{rules}
 use Rattle.operands.proofs.blank.Goals as goal
 
 pub returns : goal.returns

@@ -6,7 +6,6 @@ use Rattle.record.proofs.Refusals.{good_check}
 use Rattle.operands.specs.Operands.{named}
 use Rattle.operands.specs.declared.Pair.TheVariants.{Both}
 use Rattle.operands.proofs.PairLaws.{first_met, second_met, letters_met, both_pass}
-use borrow.Author.Rules.{rules}
 use Rattle.operands.proofs.check_pair.Goals.{In-Good, In-Good-two}
 use Rattle.operands.proofs.check_pair.Goals as goal
 

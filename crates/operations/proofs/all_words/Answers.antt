@@ -1,9 +1,7 @@
 -- `all_words`: the blocks below l are filled.
 use mathlib.Core.Path.{◌≡◌}
-use Prim.Native.Nat.{◌-◌, ◌≤◌}
 use native.Mathlib.Omega.{arith}
 use Rattle.rows.specs.Row.{mask}
-use Rattle.direct_sum.specs.Filled.{Filled}
 use Rattle.direct_sum.proofs.Filling.{filled_none}
 use Rattle.operations.proofs.BuiltLaws.{all_step}
 use Rattle.operations.proofs.all_words.Goals as goal
@@ -23,8 +21,7 @@ loop-l-smaller c = omega arith
 pub loop-l-preserved : goal.loop-l-preserved
 loop-l-preserved c =
     let v = c.loop-l in
-    let s = c in
-    (omega arith, all_step v.l (mask s.args.one) v.t c.store.new.t (omega arith) s.requires.1 c.store.ensures v.invariant.1)
+    (omega arith, all_step v.l (mask c.args.one) v.t c.store.new.t (omega arith) c.requires.1 c.store.ensures v.invariant.1)
 
 pub returns : goal.returns
 returns c =

@@ -3,7 +3,6 @@ use mathlib.Core.Path.{sym, subst}
 use Rattle.record.specs.Record.{letters_of, language_of}
 use Rattle.operations.specs.Operations.{unary_language}
 use Rattle.results.specs.Built.{Built}
-use borrow.Author.Rules.{rules}
 use Rattle.operations.proofs.build.Goals as goal
 
 pub returns-in-Complement : goal.returns-in-Complement

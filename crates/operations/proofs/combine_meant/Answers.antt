@@ -5,7 +5,6 @@ use Rattle.record.specs.Claims.{Operands}
 use Rattle.operands.proofs.PairLaws.{both_passed}
 use Rattle.results.specs.Results.{pair_refusal}
 use Rattle.operations.proofs.OperationLaws.{binary_refused, binary_service}
-use borrow.Author.Rules.{rules}
 use Rattle.operations.proofs.combine_meant.Goals.{In-Both}
 use Rattle.operations.proofs.combine_meant.Goals as goal
 
@@ -26,8 +25,7 @@ join_records-m-requires c = (passed (goal.at.join_records-m-requires c).In-Both,
 
 pub returns : goal.returns
 returns c =
-    let b = c in
-    let a = b.args in
+    let a = c.args in
     let f = c.finish in
-    let p = (binary_service a.k a.first.now a.second.now a.out.now).1 b.join_records-m.new.s b.join_records-m.result f.new.out f.result (passed (goal.at.returns b).In-Both) b.join_records-m.ensures.0 f.ensures.answer f.ensures.buffer in
+    let p = (binary_service a.k a.first.now a.second.now a.out.now).1 c.join_records-m.new.s c.join_records-m.result f.new.out f.result (passed (goal.at.returns c).In-Both) c.join_records-m.ensures.0 f.ensures.answer f.ensures.buffer in
     record { answer = p.0; buffer = p.1.0; claims = p.1.1 }

@@ -2,7 +2,6 @@
 use mathlib.Core.Path.{sym, subst}
 use Rattle.operations.specs.Operations.{binary_language}
 use Rattle.results.specs.Built.{held_words, Built}
-use borrow.Author.Rules.{rules}
 use Rattle.operations.proofs.join.Goals as goal
 
 pub returns-in-Sum : goal.returns-in-Sum

@@ -4,7 +4,6 @@ use lib.ListN.{length}
 use Rattle.record.specs.Record.{WellFormed}
 use Rattle.record.specs.Outcome.{refusal_of}
 use Rattle.operations.proofs.OperationLaws.{unary_refused, unary_service}
-use borrow.Author.Rules.{rules}
 use Rattle.operations.proofs.operate.Goals.{In-Good}
 use Rattle.operations.proofs.operate.Goals as goal
 
@@ -25,8 +24,7 @@ build-m-requires c = (passed (goal.at.build-m-requires c).In-Good, refl)
 
 pub returns : goal.returns
 returns c =
-    let b = c in
-    let a = b.args in
+    let a = c.args in
     let f = c.finish in
-    let p = (unary_service a.bytes.now a.k a.out.now).1 b.build-m.new.s b.build-m.result f.new.out f.result (passed (goal.at.returns b).In-Good) b.build-m.ensures f.ensures.answer f.ensures.buffer in
+    let p = (unary_service a.bytes.now a.k a.out.now).1 c.build-m.new.s c.build-m.result f.new.out f.result (passed (goal.at.returns c).In-Good) c.build-m.ensures f.ensures.answer f.ensures.buffer in
     record { answer = p.0; buffer = p.1.0; claims = p.1.1 }

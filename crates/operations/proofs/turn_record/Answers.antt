@@ -2,13 +2,10 @@
 use mathlib.Core.Path.{ap}
 use Rattle.rows.specs.Row.{mask}
 use Rattle.operations.proofs.BuiltLaws.{mirror_held}
-use borrow.Author.Rules.{rules}
 use Rattle.operations.proofs.turn_record.Goals as goal
 
 pub returns : goal.returns
 returns c =
-    let k = c in
-    let s = k in
-    let g = k.read-g in
+    let g = c.read-g in
     let m = c.machine.ensures in
-    mirror_held s.args.bytes.now g.new.t k.transpose.new.t g.result c.machine.result g.ensures k.transpose.ensures m.1 m.0 (ap mask m.2) (ap mask m.3)
+    mirror_held c.args.bytes.now g.new.t c.transpose.new.t g.result c.machine.result g.ensures c.transpose.ensures m.1 m.0 (ap mask m.2) (ap mask m.3)

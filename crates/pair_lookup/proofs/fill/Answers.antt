@@ -1,12 +1,9 @@
 -- `fill`: the groups below g are filled.
 use mathlib.Core.Path.{◌≡◌, ◌∙◌}
-use Prim.Native.Nat.{◌+◌, ◌-◌, ◌/◌, ◌≤◌}
+use Prim.Native.Nat.{◌+◌, ◌/◌, ◌≤◌}
 use native.Mathlib.Omega.{arith}
-use lib.ListN.{length}
-use Rattle.lookup.specs.Lookup.{groups, lookup_size, Tabled}
 use Rattle.lookup.proofs.LookupLaws.{tabled_none, tabled_step}
 use Rattle.record.proofs.Refusals.{good_check}
-use Rattle.pair_lookup.specs.Rows.{row_beside}
 use Rattle.pair_lookup.proofs.fill.Goals.{After-size-k}
 use Rattle.pair_lookup.proofs.fill.Goals as goal
 
@@ -25,8 +22,7 @@ size-k-requires c = tt
 -- The two have no more states together than a table has rows.
 few : (c : After-size-k) → c.size-n.result + c.size-k.result ≤ 64
 few c =
-    let s = c in
-    omega (arith, c.size-n.ensures.0, c.size-k.ensures.0, (good_check _ s.requires.0).front.states, (good_check _ s.requires.1).front.states)
+    omega (arith, c.size-n.ensures.0, c.size-k.ensures.0, (good_check _ c.requires.0).front.states, (good_check _ c.requires.1).front.states)
 
 pub overflow_add-h : goal.overflow_add-h
 overflow_add-h c = omega (arith, few c)
@@ -39,8 +35,7 @@ loop-g-init c = (omega arith, tabled_none _ _, c.requires.4)
 
 pub fill_group-requires : goal.fill_group-requires
 fill_group-requires c =
-    let s = c in
-    (s.requires.0, s.requires.1, s.requires.2, s.requires.3, c.size-n.ensures.0, c.size-k.ensures.0, omega (arith, few (goal.at.fill_group-requires c).After-size-k, c.loop-g-test.true), c.loop-g.invariant.2)
+    (c.requires.0, c.requires.1, c.requires.2, c.requires.3, c.size-n.ensures.0, c.size-k.ensures.0, omega (arith, few (goal.at.fill_group-requires c).After-size-k, c.loop-g-test.true), c.loop-g.invariant.2)
 
 pub overflow_add-g : goal.overflow_add-g
 overflow_add-g c = omega (arith, few (goal.at.overflow_add-g c).After-size-k, c.loop-g-test.true)

@@ -1,11 +1,8 @@
 -- `fill`: the groups below g are filled.
-use mathlib.Core.Path.{◌≡◌, ◌∙◌}
-use Prim.Native.Nat.{◌+◌, ◌-◌, ◌/◌, ◌≤◌}
-use native.Mathlib.Omega.{arith}
+use mathlib.Core.Path.{◌≡◌}
+use Prim.Native.Nat.{◌-◌, ◌≤◌}
 use lib.ListN.{length}
-use Rattle.lookup.specs.Lookup.{groups, lookup_size, Tabled}
-use Rattle.lookup.proofs.LookupLaws.{tabled_none, tabled_step}
-use Rattle.record.proofs.Refusals.{good_check}
+use Rattle.lookup.specs.Lookup.{lookup_size, Tabled}
 use Rattle.pair_lookup.specs.Rows.{row_beside}
 use Rattle.pair_lookup.proofs.fill.Given as goal
 

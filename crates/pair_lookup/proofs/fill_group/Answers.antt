@@ -1,5 +1,4 @@
 -- `fill_group`: the four rows of the group.
-use borrow.Author.Rules.{rules}
 use Rattle.pair_lookup.specs.Rows.{row_beside}
 use Rattle.pair_lookup.proofs.fill_group.Goals as goal
 

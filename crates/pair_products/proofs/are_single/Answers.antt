@@ -1,9 +1,7 @@
 -- `are_single`: the test of each half.
 use mathlib.Core.Path.{sym, subst}
 use mathlib.Core.Bool.{true≢false}
-use borrow.Author.Rules.{rules}
 use Rattle.products.specs.Lines.{Single}
-use borrow.Author.Tests.{not-false}
 use Rattle.pair_products.proofs.are_single.Goals as goal
 
 pub split-p-requires : goal.split-p-requires

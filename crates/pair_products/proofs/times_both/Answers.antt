@@ -1,12 +1,12 @@
 -- `times_both`: the row in two halves, the products of each, and the entries below l merged.
 use mathlib.Core.Path.{refl}
-use Prim.Native.Nat.{◌+◌, ◌-◌, ◌^◌, ◌≤◌, ◌<◌}
+use Prim.Native.Nat.{◌+◌, ◌^◌, ◌≤◌, ◌<◌}
 use native.Mathlib.Omega.{arith}
 use Rattle.rows.specs.Row.{width, mask}
 use Rattle.rows.proofs.BesideLaws.{moved_fits, high_lt, low_lt}
 use Rattle.record.specs.Record.{states_of, letters_of, max_states, max_letters}
 use Rattle.record.proofs.Refusals.{good_check}
-use Rattle.products.proofs.LineLaws.{Merged, merged_start, merged_step, entry_lt, both_merged}
+use Rattle.products.proofs.LineLaws.{merged_start, merged_step, entry_lt, both_merged}
 use Rattle.products.proofs.PairLaws.{row_fits}
 use Rattle.pair_products.proofs.times_both.Goals.{After-split-p, In-loop-l, Start}
 use Rattle.pair_products.proofs.times_both.Goals as goal
@@ -24,8 +24,7 @@ letters c = (good_check _ c.requires.0).front.letters
 -- The half of the row for the second record.
 high : (c : After-split-p) → mask c.split-p.result.high < 2 ^ states_of c.args.second.now
 high c =
-    let s = c in
-    rw (c.split-p.ensures.0, c.size-n.ensures.0) (high_lt (states_of s.args.first.now) (states_of s.args.second.now) (mask s.args.x) s.requires.3)
+    rw (c.split-p.ensures.0, c.size-n.ensures.0) (high_lt (states_of c.args.first.now) (states_of c.args.second.now) (mask c.args.x) c.requires.3)
 
 -- Letter l is one of both records.
 letter : (c : In-loop-l) → c.loop-l.l < letters_of c.args.first.now
@@ -45,15 +44,13 @@ size-a-requires c = tt
 
 pub split-p-requires : goal.split-p-requires
 split-p-requires c =
-    let s = c in
-    let a = s.args in
+    let a = c.args in
     let k = c.size-n in
-    row_fits a.first.now a.second.now s.requires.0 s.requires.1 k.result (mask a.x) k.ensures.0 s.requires.3
+    row_fits a.first.now a.second.now c.requires.0 c.requires.1 k.result (mask a.x) k.ensures.0 c.requires.3
 
 pub times_all-requires : goal.times_all-requires
 times_all-requires c =
-    let s = c in
-    (s.requires.0, rw (c.split-p.ensures.1, c.size-n.ensures.0) (low_lt (states_of s.args.first.now) (mask s.args.x)), s.requires.4)
+    (c.requires.0, rw (c.split-p.ensures.1, c.size-n.ensures.0) (low_lt (states_of c.args.first.now) (mask c.args.x)), c.requires.4)
 
 pub times_all-requires-2 : goal.times_all-requires-2
 times_all-requires-2 c = (c.requires.1, high (goal.at.times_all-requires-2 c).After-split-p, refl)
@@ -66,14 +63,12 @@ pick-y-requires c = omega (arith, letter (goal.at.pick-y-requires c).In-loop-l, 
 
 pub moved-z-requires : goal.moved-z-requires
 moved-z-requires c =
-    let b = c in
-    let s = b in
-    let n = b.size-n in
-    let w = b.times_all-2 in
-    let h = b.split-p in
-    let small : n.result + states_of s.args.second.now ≤ width = omega (arith, first-states (goal.at.moved-z-requires s).Start, second-states (goal.at.moved-z-requires s).Start, n.ensures.0) in
-    let less = entry_lt s.args.second.now (mask h.result.high) w.new.s s.requires.1 w.ensures b.loop-l.l (omega (arith, letter (goal.at.moved-z-requires b).In-loop-l, s.requires.2)) in
-    (omega (arith, first-states (goal.at.moved-z-requires s).Start, n.ensures.0), moved_fits n.result (states_of s.args.second.now) (mask c.pick-y.result) (rw c.pick-y.ensures less) small)
+    let n = c.size-n in
+    let w = c.times_all-2 in
+    let h = c.split-p in
+    let small : n.result + states_of c.args.second.now ≤ width = omega (arith, first-states (goal.at.moved-z-requires c).Start, second-states (goal.at.moved-z-requires c).Start, n.ensures.0) in
+    let less = entry_lt c.args.second.now (mask h.result.high) w.new.s c.requires.1 w.ensures c.loop-l.l (omega (arith, letter (goal.at.moved-z-requires c).In-loop-l, c.requires.2)) in
+    (omega (arith, first-states (goal.at.moved-z-requires c).Start, n.ensures.0), moved_fits n.result (states_of c.args.second.now) (mask c.pick-y.result) (rw c.pick-y.ensures less) small)
 
 pub pick-requires : goal.pick-requires
 pick-requires c = omega (arith, letter (goal.at.pick-requires c).In-loop-l, letters (goal.at.pick-requires c).Start)
@@ -92,22 +87,18 @@ loop-l-smaller c = omega (arith, c.loop-l-test.true)
 
 pub loop-l-preserved : goal.loop-l-preserved
 loop-l-preserved c =
-    let b = c in
-    let v = b.loop-l in
-    let s = b in (
-      omega (arith, b.loop-l-test.true),
-      merged_step v.l b.size-n.result b.times_all.new.s b.times_all-2.new.s v.s (omega (arith, letter (goal.at.overflow_add-l b).In-loop-l, letters (goal.at.overflow_add-l s).Start))
+    let v = c.loop-l in (
+      omega (arith, c.loop-l-test.true),
+      merged_step v.l c.size-n.result c.times_all.new.s c.times_all-2.new.s v.s (omega (arith, letter (goal.at.overflow_add-l c).In-loop-l, letters (goal.at.overflow_add-l c).Start))
           c.pick.ensures c.pick-y.ensures c.moved-z.ensures c.xor.ensures c.put.ensures v.invariant.1,
     )
 
 pub returns : goal.returns
 returns c =
-    let b = c in
-    let v = b.loop-l in
-    let s = b in
-    let n = b.size-n in
-    let h = b.split-p in
-    let u = b.times_all in
-    let w = b.times_all-2 in
-    both_merged s.args.first.now s.args.second.now (mask s.args.x) n.result v.l u.new.s w.new.s v.s s.requires.2 n.ensures.0
-    (omega (arith, b.size-a.ensures.0, c.loop-l-test.false, v.invariant.0)) h.ensures.0 h.ensures.1 u.ensures w.ensures v.invariant.1
+    let v = c.loop-l in
+    let n = c.size-n in
+    let h = c.split-p in
+    let u = c.times_all in
+    let w = c.times_all-2 in
+    both_merged c.args.first.now c.args.second.now (mask c.args.x) n.result v.l u.new.s w.new.s v.s c.requires.2 n.ensures.0
+    (omega (arith, c.size-a.ensures.0, c.loop-l-test.false, v.invariant.0)) h.ensures.0 h.ensures.1 u.ensures w.ensures v.invariant.1

@@ -1,13 +1,6 @@
 -- `times_both`: the row in two halves, the products of each, and the entries below l merged.
-use mathlib.Core.Path.{refl}
-use Prim.Native.Nat.{◌+◌, ◌-◌, ◌^◌, ◌≤◌, ◌<◌}
-use native.Mathlib.Omega.{arith}
-use Rattle.rows.specs.Row.{width, mask}
-use Rattle.rows.proofs.BesideLaws.{moved_fits, high_lt, low_lt}
-use Rattle.record.specs.Record.{states_of, letters_of, max_states, max_letters}
-use Rattle.record.proofs.Refusals.{good_check}
-use Rattle.products.proofs.LineLaws.{Merged, merged_start, merged_step, entry_lt, both_merged}
-use Rattle.products.proofs.PairLaws.{row_fits}
+use Prim.Native.Nat.{◌-◌, ◌≤◌}
+use Rattle.products.proofs.LineLaws.{Merged}
 use Rattle.pair_products.proofs.times_both.Given as goal
 
 abbrev pub invariant-loop-l : goal.invariant-loop-l

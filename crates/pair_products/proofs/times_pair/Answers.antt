@@ -14,33 +14,29 @@ size-n-requires c = tt
 
 pub split-p-requires : goal.split-p-requires
 split-p-requires c =
-    let s = c in
-    let a = s.args in
-    row_fits a.first.now a.second.now s.requires.0 s.requires.1 c.size-n.result (mask a.x) c.size-n.ensures.0 s.requires.4
+    let a = c.args in
+    row_fits a.first.now a.second.now c.requires.0 c.requires.1 c.size-n.result (mask a.x) c.size-n.ensures.0 c.requires.4
 
 pub times_one-y-requires : goal.times_one-y-requires
 times_one-y-requires c =
-    let s = c in
-    let a = s.args in
+    let a = c.args in
     let k = c.size-n in
     let p = c.split-p in
-    (s.requires.0, s.requires.3, low_part (states_of a.first.now) (states_of a.second.now) (mask a.x) k.result (mask p.result.high) (mask p.result.low) k.ensures.0 p.ensures.0 p.ensures.1)
+    (c.requires.0, c.requires.3, low_part (states_of a.first.now) (states_of a.second.now) (mask a.x) k.result (mask p.result.high) (mask p.result.low) k.ensures.0 p.ensures.0 p.ensures.1)
 
 pub times_one-z-requires : goal.times_one-z-requires
 times_one-z-requires c =
-    let s = c in
-    let a = s.args in
+    let a = c.args in
     let k = c.size-n in
     let p = c.split-p in
-    (s.requires.1, omega (arith, s.requires.2, s.requires.3), high_part (states_of a.first.now) (states_of a.second.now) (mask a.x) k.result (mask p.result.high) (mask p.result.low) k.ensures.0 p.ensures.0 p.ensures.1 s.requires.4)
+    (c.requires.1, omega (arith, c.requires.2, c.requires.3), high_part (states_of a.first.now) (states_of a.second.now) (mask a.x) k.result (mask p.result.high) (mask p.result.low) k.ensures.0 p.ensures.0 p.ensures.1 c.requires.4)
 
 pub moved-requires : goal.moved-requires
 moved-requires c =
-    let s = c in
-    let a = s.args in
+    let a = c.args in
     let k = c.size-n in
     let z = mask c.times_one-z.result in
-    moves_up a.first.now a.second.now s.requires.0 s.requires.1 k.result z k.ensures.0 (product_below a.second.now s.requires.1 a.l (mask c.split-p.result.high) z (omega (arith, s.requires.2, s.requires.3)) c.times_one-z.ensures)
+    moves_up a.first.now a.second.now c.requires.0 c.requires.1 k.result z k.ensures.0 (product_below a.second.now c.requires.1 a.l (mask c.split-p.result.high) z (omega (arith, c.requires.2, c.requires.3)) c.times_one-z.ensures)
 
 pub xor-requires : goal.xor-requires
 xor-requires c = tt

@@ -9,38 +9,33 @@ use Rattle.pair_products.proofs.times_singles.Goals as goal
 
 pub split-p-requires : goal.split-p-requires
 split-p-requires c =
-    let s = c in
-    let a = s.args in
-    row_fits a.first.now a.second.now s.requires.0 s.requires.1 a.n (mask a.x) s.requires.5 s.requires.4
+    let a = c.args in
+    row_fits a.first.now a.second.now c.requires.0 c.requires.1 a.n (mask a.x) c.requires.5 c.requires.4
 
 pub times_single-y-requires : goal.times_single-y-requires
 times_single-y-requires c =
-    let s = c in
-    let a = s.args in
+    let a = c.args in
     let p = c.split-p in
-    (s.requires.0, s.requires.5, s.requires.3, low_part (states_of a.first.now) (states_of a.second.now) (mask a.x) a.n (mask p.result.high) (mask p.result.low) s.requires.5 p.ensures.0 p.ensures.1, subst Single (sym p.ensures.1) s.requires.8)
+    (c.requires.0, c.requires.5, c.requires.3, low_part (states_of a.first.now) (states_of a.second.now) (mask a.x) a.n (mask p.result.high) (mask p.result.low) c.requires.5 p.ensures.0 p.ensures.1, subst Single (sym p.ensures.1) c.requires.8)
 
 pub times_single-z-requires : goal.times_single-z-requires
 times_single-z-requires c =
-    let s = c in
-    let a = s.args in
+    let a = c.args in
     let p = c.split-p in
-    (s.requires.1, s.requires.6, omega (arith, s.requires.2, s.requires.3), high_part (states_of a.first.now) (states_of a.second.now) (mask a.x) a.n (mask p.result.high) (mask p.result.low) s.requires.5 p.ensures.0 p.ensures.1 s.requires.4, subst Single (sym p.ensures.0) s.requires.7)
+    (c.requires.1, c.requires.6, omega (arith, c.requires.2, c.requires.3), high_part (states_of a.first.now) (states_of a.second.now) (mask a.x) a.n (mask p.result.high) (mask p.result.low) c.requires.5 p.ensures.0 p.ensures.1 c.requires.4, subst Single (sym p.ensures.0) c.requires.7)
 
 pub moved-requires : goal.moved-requires
 moved-requires c =
-    let s = c in
-    let a = s.args in
+    let a = c.args in
     let z = mask c.times_single-z.result in
-    moves_up a.first.now a.second.now s.requires.0 s.requires.1 a.n z s.requires.5 (product_below a.second.now s.requires.1 a.l (mask c.split-p.result.high) z (omega (arith, s.requires.2, s.requires.3)) c.times_single-z.ensures)
+    moves_up a.first.now a.second.now c.requires.0 c.requires.1 a.n z c.requires.5 (product_below a.second.now c.requires.1 a.l (mask c.split-p.result.high) z (omega (arith, c.requires.2, c.requires.3)) c.times_single-z.ensures)
 
 pub xor-requires : goal.xor-requires
 xor-requires c = tt
 
 pub returns : goal.returns
 returns c =
-    let s = c in
-    let a = s.args in
+    let a = c.args in
     let p = c.split-p in
-    pair_product (states_of a.first.now) (states_of a.second.now) (mask a.x) a.n (mask p.result.high) (mask p.result.low) s.requires.5 p.ensures.0 p.ensures.1
+    pair_product (states_of a.first.now) (states_of a.second.now) (mask a.x) a.n (mask p.result.high) (mask p.result.low) c.requires.5 p.ensures.0 p.ensures.1
     (row_at a.first.now) (row_at a.second.now) a.l (mask c.times_single-y.result) (mask c.times_single-z.result) (mask c.moved.result) (mask c.xor.result) c.times_single-y.ensures c.times_single-z.ensures c.moved.ensures c.xor.ensures

@@ -18,33 +18,29 @@ size-n-requires c = tt
 
 pub split-p-requires : goal.split-p-requires
 split-p-requires c =
-    let s = c in
-    let a = s.args in
-    row_fits a.first.now a.second.now s.requires.0 s.requires.1 c.size-n.result (mask a.x) c.size-n.ensures.0 s.requires.4
+    let a = c.args in
+    row_fits a.first.now a.second.now c.requires.0 c.requires.1 c.size-n.result (mask a.x) c.size-n.ensures.0 c.requires.4
 
 pub times_three-y-requires : goal.times_three-y-requires
 times_three-y-requires c =
-    let s = c in
-    let a = s.args in
+    let a = c.args in
     let k = c.size-n in
     let p = c.split-p in
-    (s.requires.0, omega (arith, s.requires.3), low_part (states_of a.first.now) (states_of a.second.now) (mask a.x) k.result (mask p.result.high) (mask p.result.low) k.ensures.0 p.ensures.0 p.ensures.1)
+    (c.requires.0, omega (arith, c.requires.3), low_part (states_of a.first.now) (states_of a.second.now) (mask a.x) k.result (mask p.result.high) (mask p.result.low) k.ensures.0 p.ensures.0 p.ensures.1)
 
 pub times_three-z-requires : goal.times_three-z-requires
 times_three-z-requires c =
-    let s = c in
-    let a = s.args in
+    let a = c.args in
     let k = c.size-n in
     let p = c.split-p in
-    (s.requires.1, omega (arith, s.requires.2, s.requires.3), high_part (states_of a.first.now) (states_of a.second.now) (mask a.x) k.result (mask p.result.high) (mask p.result.low) k.ensures.0 p.ensures.0 p.ensures.1 s.requires.4)
+    (c.requires.1, omega (arith, c.requires.2, c.requires.3), high_part (states_of a.first.now) (states_of a.second.now) (mask a.x) k.result (mask p.result.high) (mask p.result.low) k.ensures.0 p.ensures.0 p.ensures.1 c.requires.4)
 
 -- What the second record's half makes can be moved up.
 up : (c : After-times_three-z) (l y : ℕ) → l < 3 → y ≡ product (states_of c.args.second.now) (mask c.split-p.result.high) (row_at c.args.second.now l) → (c.size-n.result < width) × (y * 2 ^ c.size-n.result < 2 ^ width)
 up c l y h e =
-    let s = c in
-    let a = s.args in
+    let a = c.args in
     let k = c.size-n in
-    moves_up a.first.now a.second.now s.requires.0 s.requires.1 k.result y k.ensures.0 (product_below a.second.now s.requires.1 l (mask c.split-p.result.high) y (omega (arith, s.requires.2, s.requires.3)) e)
+    moves_up a.first.now a.second.now c.requires.0 c.requires.1 k.result y k.ensures.0 (product_below a.second.now c.requires.1 l (mask c.split-p.result.high) y (omega (arith, c.requires.2, c.requires.3)) e)
 
 pub moved-requires : goal.moved-requires
 moved-requires c = up (goal.at.moved-requires c).After-times_three-z 0 _ (omega arith) c.times_three-z.ensures.0

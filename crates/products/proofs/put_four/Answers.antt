@@ -1,7 +1,6 @@
 -- `put_four`: four letters, one after another.
 use Prim.Native.Nat.{◌+◌, ◌≤◌}
 use native.Mathlib.Omega.{arith}
-use borrow.Author.Rules.{rules}
 use Rattle.rows.specs.Row.{mask}
 use Rattle.rows.specs.Table.{blocks}
 use Rattle.record.specs.Record.{states_of, row_at}
@@ -37,18 +36,16 @@ put-requires-4 c = omega (arith, room (goal.at.put-requires-4 c).Start)
 
 pub returns : goal.returns
 returns c =
-    let t = c in
-    let s = t in
-    let a = s.args in
+    let a = c.args in
     let M = row_at a.bytes.now in
     let n = states_of a.bytes.now in
     let x = mask a.x in
-    let r = room (goal.at.returns s).Start in
-    let p = t.times_four-p.ensures in
+    let r = room (goal.at.returns c).Start in
+    let p = c.times_four-p.ensures in
     let w1 = c.put in
     let w2 = c.put-2 in
     let w3 = c.put-3 in
-    let one = upto_step a.l (a.l + 1) M n x a.s.now (omega arith) (omega arith) p.0 w1.ensures s.requires.3 in
+    let one = upto_step a.l (a.l + 1) M n x a.s.now (omega arith) (omega arith) p.0 w1.ensures c.requires.3 in
     let two = upto_step (a.l + 1) (a.l + 2) M n x w1.new.s (omega arith) (omega arith) p.1 w2.ensures one in
     let three = upto_step (a.l + 2) (a.l + 3) M n x w2.new.s (omega arith) (omega arith) p.2 w3.ensures two in
     upto_step (a.l + 3) (a.l + 4) M n x w3.new.s (omega arith) (omega arith) p.3 c.put-4.ensures three

@@ -1,7 +1,6 @@
 -- `put_one`: the one letter that may be left.
 use mathlib.Core.Path.{◌≡◌}
 use native.Mathlib.Omega.{arith}
-use borrow.Author.Rules.{rules}
 use Rattle.rows.specs.Row.{mask}
 use Rattle.record.specs.Record.{states_of, letters_of, row_at}
 use Rattle.record.proofs.Refusals.{good_check}
@@ -16,19 +15,16 @@ size-requires c = tt
 
 pub put-requires : goal.put-requires
 put-requires c =
-    let s = c in
-    omega (arith, (good_check _ s.requires.0).front.letters)
+    omega (arith, (good_check _ c.requires.0).front.letters)
 
 pub returns-then-l-size : goal.returns-then-l-size
 returns-then-l-size c =
-    let s = c in
-    let a = s.args in
+    let a = c.args in
     let bs = a.bytes.now in
-    let f = (good_check bs s.requires.0).front in
-    upto_step a.l (letters_of bs) (row_at bs) (states_of bs) (mask a.x) a.s.now (omega arith) (omega arith) c.times_one.ensures c.put.ensures s.requires.4
+    let f = (good_check bs c.requires.0).front in
+    upto_step a.l (letters_of bs) (row_at bs) (states_of bs) (mask a.x) a.s.now (omega arith) (omega arith) c.times_one.ensures c.put.ensures c.requires.4
 
 pub returns-else-l-size : goal.returns-else-l-size
 returns-else-l-size c =
-    let s = c in
-    let e : letters_of s.args.bytes.now ≡ s.args.l = omega arith in
-    rw e s.requires.4
+    let e : letters_of c.args.bytes.now ≡ c.args.l = omega arith in
+    rw e c.requires.4

@@ -1,7 +1,6 @@
 -- `put_rest`: two letters where there are two, then the one that may be left.
 use Prim.Native.Nat.{◌+◌}
 use native.Mathlib.Omega.{arith}
-use borrow.Author.Rules.{rules}
 use Rattle.rows.specs.Row.{mask}
 use Rattle.record.specs.Record.{states_of, row_at}
 use Rattle.record.proofs.Refusals.{good_check}
@@ -18,21 +17,20 @@ pub returns-then-size-l : goal.returns-then-size-l
 returns-then-size-l c = c.put_one.ensures
 
 pub put-requires : goal.put-requires
-put-requires c = let s = c in omega (arith, (good_check _ s.requires.0).front.letters)
+put-requires c = omega (arith, (good_check _ c.requires.0).front.letters)
 
 pub put-requires-2 : goal.put-requires-2
-put-requires-2 c = let s = c in omega (arith, (good_check _ s.requires.0).front.letters)
+put-requires-2 c = omega (arith, (good_check _ c.requires.0).front.letters)
 
 pub put_one-requires-2 : goal.put_one-requires-2
 put_one-requires-2 c =
-    let s = c in
-    let a = s.args in
+    let a = c.args in
     let bs = a.bytes.now in
-    let f = (good_check bs s.requires.0).front in
+    let f = (good_check bs c.requires.0).front in
     let p = c.times_two-p.ensures in
-    let one = upto_step a.l (a.l + 1) (row_at bs) (states_of bs) (mask a.x) a.s.now (omega arith) (omega arith) p.0 c.put.ensures s.requires.4 in
+    let one = upto_step a.l (a.l + 1) (row_at bs) (states_of bs) (mask a.x) a.s.now (omega arith) (omega arith) p.0 c.put.ensures c.requires.4 in
     let two = upto_step (a.l + 1) (a.l + 2) (row_at bs) (states_of bs) (mask a.x) c.put.new.s (omega arith) (omega arith) p.1 c.put-2.ensures one in
-    (s.requires.0, omega arith, omega arith, s.requires.3, two)
+    (c.requires.0, omega arith, omega arith, c.requires.3, two)
 
 pub returns : goal.returns
 returns c = c.put_one-2.ensures

@@ -27,8 +27,7 @@ overflow_add-l-2 c = let f = (passed (goal.at.overflow_mul-l c).Start).front in 
 
 pub field_at-requires : goal.field_at-requires
 field_at-requires c =
-    let s = c in
-    row_inside s.args.bytes.now (passed (goal.at.overflow_mul-l s).Start) s.requires.1 s.args.l s.args.i s.requires.2 s.requires.3
+    row_inside c.args.bytes.now (passed (goal.at.overflow_mul-l c).Start) c.requires.1 c.args.l c.args.i c.requires.2 c.requires.3
 
 pub returns : goal.returns
 returns c = c.field_at.ensures ∙ rw c.requires.1

@@ -21,33 +21,28 @@ size-a-requires c = tt
 
 pub put_rest-requires : goal.put_rest-requires
 put_rest-requires c =
-    let s = c in
-    (s.requires.0, omega arith, omega arith, s.requires.1, start (goal.at.put_rest-requires s).Start)
+    (c.requires.0, omega arith, omega arith, c.requires.1, start (goal.at.put_rest-requires c).Start)
 
 pub returns-then-a-lt4 : goal.returns-then-a-lt4
 returns-then-a-lt4 c = c.put_rest.ensures
 
 pub put_four-requires : goal.put_four-requires
 put_four-requires c =
-    let s = c in
-    (s.requires.0, omega arith, s.requires.1, start (goal.at.put_four-requires s).Start)
+    (c.requires.0, omega arith, c.requires.1, start (goal.at.put_four-requires c).Start)
 
 pub put_rest-requires-then-a-lt8 : goal.put_rest-requires-then-a-lt8
 put_rest-requires-then-a-lt8 c =
-    let s = c in
-    (s.requires.0, omega arith, omega arith, s.requires.1, c.put_four.ensures)
+    (c.requires.0, omega arith, omega arith, c.requires.1, c.put_four.ensures)
 
 pub returns-then-a-lt8 : goal.returns-then-a-lt8
 returns-then-a-lt8 c = c.put_rest-then-a-lt8.ensures
 
 pub put_four-requires-2 : goal.put_four-requires-2
 put_four-requires-2 c =
-    let s = c in
-    (s.requires.0, omega arith, s.requires.1, c.put_four.ensures)
+    (c.requires.0, omega arith, c.requires.1, c.put_four.ensures)
 
 pub returns : goal.returns
 returns c =
-    let s = c in
-    let f = (good_check _ s.requires.0).front in
-    let e : letters_of s.args.bytes.now ≡ 8 = omega arith in
+    let f = (good_check _ c.requires.0).front in
+    let e : letters_of c.args.bytes.now ≡ 8 = omega arith in
     rw e c.put_four-2.ensures

@@ -1,8 +1,8 @@
 -- `times_one`: what the bits passed have given, xor what those to come will give, is the product.
-use Prim.Native.Nat.{◌≤◌, ◌<◌}
+use Prim.Native.Nat.{◌<◌}
 use native.Mathlib.Omega.{arith}
 use Rattle.rows.specs.Row.{mask}
-use Rattle.rows.proofs.ProductLaws.{Left, left_start, left_lowest, left_end}
+use Rattle.rows.proofs.ProductLaws.{left_start, left_lowest, left_end}
 use Rattle.record.specs.Record.{states_of, row_at}
 use Rattle.record.proofs.Refusals.{good_check}
 use Rattle.rows.proofs.LoopLaws.{some_bit, no_bit, cleared_less, bit_state}
@@ -34,8 +34,7 @@ pub row_at-requires : goal.row_at-requires
 row_at-requires c =
     let v = c.loop-z in
     let n = c.size-n.ensures.0 in
-    let s = c in
-    (s.requires.0, n, s.requires.1, rw n (bit_state (states_of s.args.bytes.now) (mask s.args.x) (mask v.z) c.lowest-i.result s.requires.2 v.invariant.0 c.lowest-i.ensures.1))
+    (c.requires.0, n, c.requires.1, rw n (bit_state (states_of c.args.bytes.now) (mask c.args.x) (mask v.z) c.lowest-i.result c.requires.2 v.invariant.0 c.lowest-i.ensures.1))
 
 pub xor-y-requires : goal.xor-y-requires
 xor-y-requires c = tt
@@ -48,19 +47,16 @@ loop-z-smaller c = cleared_less (mask c.loop-z.z) (some (goal.at.loop-z-smaller 
 
 pub loop-z-preserved : goal.loop-z-preserved
 loop-z-preserved c =
-    let b = c in
-    let v = b.loop-z in
-    let s = b in
+    let v = c.loop-z in
     let q = c.lowest-i in
-    let less = cleared_less (mask v.z) (some (goal.at.loop-z-smaller b).In-loop-z) c.clear_lowest-z.ensures in (
+    let less = cleared_less (mask v.z) (some (goal.at.loop-z-smaller c).In-loop-z) c.clear_lowest-z.ensures in (
       omega (arith, v.invariant.0),
-      left_lowest (row_at s.args.bytes.now s.args.l) (mask s.args.x) (mask v.z) (mask v.y) q.result (some (goal.at.loop-z-smaller b).In-loop-z) v.invariant.0 q.ensures.1 q.ensures.2
+      left_lowest (row_at c.args.bytes.now c.args.l) (mask c.args.x) (mask v.z) (mask v.y) q.result (some (goal.at.loop-z-smaller c).In-loop-z) v.invariant.0 q.ensures.1 q.ensures.2
           c.row_at.ensures c.xor-y.ensures c.clear_lowest-z.ensures v.invariant.1,
     )
 
 pub returns : goal.returns
 returns c =
     let v = c.loop-z in
-    let s = c in
     let z = no_bit (mask v.z) c.is_none.ensures c.loop-z-test.false in
-    left_end (row_at s.args.bytes.now s.args.l) (mask s.args.x) (mask v.y) (rw z at v.invariant.1) (states_of s.args.bytes.now) s.requires.2
+    left_end (row_at c.args.bytes.now c.args.l) (mask c.args.x) (mask v.y) (rw z at v.invariant.1) (states_of c.args.bytes.now) c.requires.2

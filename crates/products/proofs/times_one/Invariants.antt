@@ -1,11 +1,8 @@
 -- `times_one`: what the bits passed have given, xor what those to come will give, is the product.
-use Prim.Native.Nat.{◌≤◌, ◌<◌}
-use native.Mathlib.Omega.{arith}
+use Prim.Native.Nat.{◌≤◌}
 use Rattle.rows.specs.Row.{mask}
-use Rattle.rows.proofs.ProductLaws.{Left, left_start, left_lowest, left_end}
-use Rattle.record.specs.Record.{states_of, row_at}
-use Rattle.record.proofs.Refusals.{good_check}
-use Rattle.rows.proofs.LoopLaws.{some_bit, no_bit, cleared_less, bit_state}
+use Rattle.rows.proofs.ProductLaws.{Left}
+use Rattle.record.specs.Record.{row_at}
 use Rattle.products.proofs.times_one.Given as goal
 
 abbrev pub invariant-loop-z : goal.invariant-loop-z

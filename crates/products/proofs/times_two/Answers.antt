@@ -1,8 +1,8 @@
 -- `times_two`: for each of the two matrices, what the bits passed have given, xor what those to come will give, is the product.
-use Prim.Native.Nat.{◌+◌, ◌≤◌, ◌<◌}
+use Prim.Native.Nat.{◌+◌, ◌<◌}
 use native.Mathlib.Omega.{arith}
 use Rattle.rows.specs.Row.{mask}
-use Rattle.rows.proofs.ProductLaws.{Left, left_start, left_lowest, left_end}
+use Rattle.rows.proofs.ProductLaws.{left_start, left_lowest, left_end}
 use Rattle.record.specs.Record.{states_of, row_at}
 use Rattle.record.proofs.Refusals.{good_check}
 use Rattle.rows.proofs.LoopLaws.{some_bit, no_bit, cleared_less, bit_state}
@@ -16,8 +16,7 @@ some c = some_bit (mask c.loop-z.z) c.is_none.ensures c.loop-z-test.true
 state : (c : After-lowest-i) → c.lowest-i.result < c.size-n.result
 state c =
     let v = c.loop-z in
-    let s = c in
-    rw c.size-n.ensures.0 (bit_state (states_of s.args.bytes.now) (mask s.args.x) (mask v.z) c.lowest-i.result s.requires.2 v.invariant.0 c.lowest-i.ensures.1)
+    rw c.size-n.ensures.0 (bit_state (states_of c.args.bytes.now) (mask c.args.x) (mask v.z) c.lowest-i.result c.requires.2 v.invariant.0 c.lowest-i.ensures.1)
 
 pub bounds-bytes-5 : goal.bounds-bytes-5
 bounds-bytes-5 c = let f = (good_check _ c.requires.0).front in omega arith
@@ -42,22 +41,18 @@ lowest-i-requires c = some c
 
 pub row_at-requires : goal.row_at-requires
 row_at-requires c =
-    let s = c in
-    (s.requires.0, c.size-n.ensures.0, omega (arith, s.requires.1), state c)
+    (c.requires.0, c.size-n.ensures.0, omega (arith, c.requires.1), state c)
 
 pub xor-y-requires : goal.xor-y-requires
 xor-y-requires c = tt
 
 pub overflow_add-l : goal.overflow_add-l
 overflow_add-l c =
-    let s = c in
-    omega (arith, s.requires.1, (good_check _ s.requires.0).front.letters)
+    omega (arith, c.requires.1, (good_check _ c.requires.0).front.letters)
 
 pub row_at-requires-in-loop-z : goal.row_at-requires-in-loop-z
 row_at-requires-in-loop-z c =
-    let b = c in
-    let s = b in
-    (s.requires.0, b.size-n.ensures.0, omega (arith, s.requires.1), state (goal.at.overflow_add-l b).After-lowest-i)
+    (c.requires.0, c.size-n.ensures.0, omega (arith, c.requires.1), state (goal.at.overflow_add-l c).After-lowest-i)
 
 pub xor-w-requires : goal.xor-w-requires
 xor-w-requires c = tt
@@ -67,29 +62,24 @@ clear_lowest-z-requires c = some (goal.at.clear_lowest-z-requires c).In-loop-z
 
 pub loop-z-smaller : goal.loop-z-smaller
 loop-z-smaller c =
-    let b = c in
-    cleared_less (mask b.loop-z.z) (some (goal.at.loop-z-smaller b).In-loop-z) c.clear_lowest-z.ensures
+    cleared_less (mask c.loop-z.z) (some (goal.at.loop-z-smaller c).In-loop-z) c.clear_lowest-z.ensures
 
 pub loop-z-preserved : goal.loop-z-preserved
 loop-z-preserved c =
-    let b = c in
-    let t = b in
-    let v = t.loop-z in
-    let s = b in
-    let less = cleared_less (mask v.z) (some (goal.at.loop-z-smaller t).In-loop-z) c.clear_lowest-z.ensures in (
+    let v = c.loop-z in
+    let less = cleared_less (mask v.z) (some (goal.at.loop-z-smaller c).In-loop-z) c.clear_lowest-z.ensures in (
       omega (arith, v.invariant.0),
-      left_lowest (row_at s.args.bytes.now s.args.l) (mask s.args.x) (mask v.z) (mask v.y) b.lowest-i.result (some (goal.at.loop-z-smaller t).In-loop-z) v.invariant.0 b.lowest-i.ensures.1 b.lowest-i.ensures.2
+      left_lowest (row_at c.args.bytes.now c.args.l) (mask c.args.x) (mask v.z) (mask v.y) c.lowest-i.result (some (goal.at.loop-z-smaller c).In-loop-z) v.invariant.0 c.lowest-i.ensures.1 c.lowest-i.ensures.2
           c.row_at.ensures c.xor-y.ensures c.clear_lowest-z.ensures v.invariant.1,
-      left_lowest (row_at s.args.bytes.now (s.args.l + 1)) (mask s.args.x) (mask v.z) (mask v.w) b.lowest-i.result (some (goal.at.loop-z-smaller t).In-loop-z) v.invariant.0 b.lowest-i.ensures.1 b.lowest-i.ensures.2
+      left_lowest (row_at c.args.bytes.now (c.args.l + 1)) (mask c.args.x) (mask v.z) (mask v.w) c.lowest-i.result (some (goal.at.loop-z-smaller c).In-loop-z) v.invariant.0 c.lowest-i.ensures.1 c.lowest-i.ensures.2
           c.row_at-in-loop-z.ensures c.xor-w.ensures c.clear_lowest-z.ensures v.invariant.2,
     )
 
 pub returns : goal.returns
 returns c =
     let v = c.loop-z in
-    let s = c in
-    let bs = s.args.bytes.now in
+    let bs = c.args.bytes.now in
     let z = no_bit (mask v.z) c.is_none.ensures c.loop-z-test.false in (
-      left_end (row_at bs s.args.l) (mask s.args.x) (mask v.y) (rw z at v.invariant.1) (states_of bs) s.requires.2,
-      left_end (row_at bs (s.args.l + 1)) (mask s.args.x) (mask v.w) (rw z at v.invariant.2) (states_of bs) s.requires.2,
+      left_end (row_at bs c.args.l) (mask c.args.x) (mask v.y) (rw z at v.invariant.1) (states_of bs) c.requires.2,
+      left_end (row_at bs (c.args.l + 1)) (mask c.args.x) (mask v.w) (rw z at v.invariant.2) (states_of bs) c.requires.2,
     )

@@ -45,7 +45,6 @@ check_fields-requires c =
 
 pub returns : goal.returns
 returns c =
-    let b = c in
     c.check_fields.ensures
     ∙ rw (c.size-a.ensures.0, c.size-n.ensures.0)
-    (fields_met _ (passed (goal.at.returns b).In-Good) (b.if-bytes-whole.false ∙ b.need-whole.ensures))
+    (fields_met _ (passed (goal.at.returns c).In-Good) (c.if-bytes-whole.false ∙ c.need-whole.ensures))

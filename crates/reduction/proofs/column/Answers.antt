@@ -40,10 +40,9 @@ loop-i-smaller c = omega arith
 pub loop-i-preserved : goal.loop-i-preserved
 loop-i-preserved c =
     let v = c.loop-i in
-    let s = c in
-    let a = s.args in
+    let a = c.args in
     let e = c.get-x.ensures in
-    let low = subst (λ x. x < 2 ^ a.n) (sym e) (s.requires.1 v.i (omega arith)) in (
+    let low = subst (λ x. x < 2 ^ a.n) (sym e) (c.requires.1 v.i (omega arith)) in (
       omega arith,
       rw c.xor-y.ensures (counted_step a.n a.b.now v.i (mask a.f) (mask v.y) (mask c.when-v.result) c.parity-o.result
           (c.parity-o.ensures a.n low ∙ ap (λ x. xor_below a.n (λ j. bit_of x j && bit_of (mask a.f) j)) e)

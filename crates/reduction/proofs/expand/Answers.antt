@@ -12,18 +12,16 @@ use Rattle.reduction.proofs.expand.Goals as goal
 
 pub get-x-requires : goal.get-x-requires
 get-x-requires c =
-    let s = c in
-    let a = s.args in
-    (omega arith, omega arith, omega (arith, count_bound width a.m.states a.s.count (mask a.s.pivots) (bits width a.b.now 2) a.b.now s.requires.1.search.basis, s.requires.0.states, s.requires.2))
+    let a = c.args in
+    (omega arith, omega arith, omega (arith, count_bound width a.m.states a.s.count (mask a.s.pivots) (bits width a.b.now 2) a.b.now c.requires.1.search.basis, c.requires.0.states, c.requires.2))
 
 pub step-requires : goal.step-requires
 step-requires c =
-    let s = c in
-    let a = s.args in
+    let a = c.args in
     let n = a.m.states in
     let e = c.get-x.ensures in
-    let h = found_low width n a.s.count (mask a.s.pivots) (bits width a.b.now 2) a.b.now s.requires.1.search.basis a.k s.requires.2 in
-    (s.requires.0, s.requires.1, s.requires.2, omega (arith, c.if-a-eq1.true), c.times-y.ensures n (subst (λ x. x < 2 ^ n) (sym e) h) ∙ ap (λ x. product n x (at a.t.now 0)) e)
+    let h = found_low width n a.s.count (mask a.s.pivots) (bits width a.b.now 2) a.b.now c.requires.1.search.basis a.k c.requires.2 in
+    (c.requires.0, c.requires.1, c.requires.2, omega (arith, c.if-a-eq1.true), c.times-y.ensures n (subst (λ x. x < 2 ^ n) (sym e) h) ∙ ap (λ x. product n x (at a.t.now 0)) e)
 
 pub returns-then-a-eq1 : goal.returns-then-a-eq1
 returns-then-a-eq1 c =

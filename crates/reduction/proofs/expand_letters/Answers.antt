@@ -18,10 +18,9 @@ below s = omega (arith, count_bound width s.args.m.states s.args.s.count (mask s
 -- The line has the products of row k.
 made : (c : After-multiply) → Products c.args.m.letters c.args.m.states (cell width c.args.b.now 1 c.args.k) (at c.args.t.now) c.multiply.new.y
 made c =
-    let s = c in
-    let a = s.args in
+    let a = c.args in
     let n = a.m.states in
-    c.multiply.ensures n (found_low width n a.s.count (mask a.s.pivots) (bits width a.b.now 2) a.b.now s.requires.1.search.basis a.k s.requires.2)
+    c.multiply.ensures n (found_low width n a.s.count (mask a.s.pivots) (bits width a.b.now 2) a.b.now c.requires.1.search.basis a.k c.requires.2)
 
 pub multiply-requires : goal.multiply-requires
 multiply-requires c = (c.requires.0.letters, c.requires.1.base, below (goal.at.multiply-requires c).Start, refl)
@@ -35,10 +34,8 @@ pick-z-requires c = omega (arith, c.loop-l-test.true, c.requires.0.letters)
 pub step-r-requires : goal.step-r-requires
 step-r-requires c =
     let v = c.loop-l in
-    let y = c in
-    let s = y in
-    let a = s.args in
-    (s.requires.0, v.invariant.1, omega (arith, v.invariant.2, s.requires.2), omega (arith, c.loop-l-test.true), c.pick-z.ensures ∙ made (goal.at.step-r-requires y).After-multiply v.l (omega (arith, c.loop-l-test.true)) ∙ ap (λ x. product a.m.states x (at a.t.now v.l)) (sym v.invariant.3))
+    let a = c.args in
+    (c.requires.0, v.invariant.1, omega (arith, v.invariant.2, c.requires.2), omega (arith, c.loop-l-test.true), c.pick-z.ensures ∙ made (goal.at.step-r-requires c).After-multiply v.l (omega (arith, c.loop-l-test.true)) ∙ ap (λ x. product a.m.states x (at a.t.now v.l)) (sym v.invariant.3))
 
 pub overflow_add-l : goal.overflow_add-l
 overflow_add-l c = omega (arith, c.loop-l-test.true, c.requires.0.letters)

@@ -13,16 +13,14 @@ use Rattle.reduction.proofs.look_up_row.Goals as goal
 -- The line has the products of row k.
 made : (c : After-multiply) → Products c.args.m.letters c.args.m.states (cell width c.args.b.now 1 c.args.k) (at c.args.t.now) c.multiply.new.y
 made c =
-    let s = c in
-    let a = s.args in
+    let a = c.args in
     let n = a.m.states in
-    c.multiply.ensures n (found_low width n a.s.count (mask a.s.pivots) (bits width a.b.now 2) a.b.now s.requires.1.search.basis a.k s.requires.2)
+    c.multiply.ensures n (found_low width n a.s.count (mask a.s.pivots) (bits width a.b.now 2) a.b.now c.requires.1.search.basis a.k c.requires.2)
 
 pub multiply-requires : goal.multiply-requires
 multiply-requires c =
-    let s = c in
-    let a = s.args in
-    (s.requires.0.letters, s.requires.1.base, omega (arith, count_bound width a.m.states a.s.count (mask a.s.pivots) (bits width a.b.now 2) a.b.now s.requires.1.search.basis, s.requires.0.states, s.requires.2), refl)
+    let a = c.args in
+    (c.requires.0.letters, c.requires.1.base, omega (arith, count_bound width a.m.states a.s.count (mask a.s.pivots) (bits width a.b.now 2) a.b.now c.requires.1.search.basis, c.requires.0.states, c.requires.2), refl)
 
 pub loop-l-init : goal.loop-l-init
 loop-l-init c = (omega arith, c.requires.1)
@@ -33,10 +31,8 @@ pick-z-requires c = omega (arith, c.loop-l-test.true, c.requires.0.letters)
 pub look_up-requires : goal.look_up-requires
 look_up-requires c =
     let v = c.loop-l in
-    let y = c in
-    let s = y in
-    let h : v.l < s.args.m.letters = omega (arith, c.loop-l-test.true) in
-    (s.requires.0, v.invariant.1, s.requires.2, h, s.requires.3, s.requires.4, c.pick-z.ensures ∙ made (goal.at.look_up-requires y).After-multiply v.l h)
+    let h : v.l < c.args.m.letters = omega (arith, c.loop-l-test.true) in
+    (c.requires.0, v.invariant.1, c.requires.2, h, c.requires.3, c.requires.4, c.pick-z.ensures ∙ made (goal.at.look_up-requires c).After-multiply v.l h)
 
 pub overflow_add-l : goal.overflow_add-l
 overflow_add-l c = omega (arith, c.loop-l-test.true, c.requires.0.letters)

@@ -14,15 +14,13 @@ loop-k-init c = (c.requires.2, c.requires.1)
 
 pub look_up_row-requires : goal.look_up_row-requires
 look_up_row-requires c =
-    let s = c in
     let f = c.fill-g.ensures in
-    (s.requires.0, c.loop-k.invariant.1, omega arith, s.requires.3, record { few = f.0; all = f.1; tabled = f.2 })
+    (c.requires.0, c.loop-k.invariant.1, omega arith, c.requires.3, record { few = f.0; all = f.1; tabled = f.2 })
 
 pub overflow_add-k : goal.overflow_add-k
 overflow_add-k c =
-    let s = c in
-    let a = s.args in
-    omega (arith, count_bound width a.m.states a.s.count (mask a.s.pivots) (bits width a.b.now 2) a.b.now s.requires.1.search.basis, s.requires.0.states)
+    let a = c.args in
+    omega (arith, count_bound width a.m.states a.s.count (mask a.s.pivots) (bits width a.b.now 2) a.b.now c.requires.1.search.basis, c.requires.0.states)
 
 pub loop-k-smaller : goal.loop-k-smaller
 loop-k-smaller c = omega arith

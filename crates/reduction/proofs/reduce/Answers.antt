@@ -15,32 +15,28 @@ placed c = rw c.none-none.ensures at c.place-q.ensures
 
 pub place-q-requires : goal.place-q-requires
 place-q-requires c =
-    let s = c in
-    let a = s.args in
-    (s.requires.0.states, s.requires.0.states, omega (arith, s.requires.1), s.requires.0.initial, subst (λ p. BasisIn width a.m.states 0 p (bits width a.b.now 2) a.b.now) (sym c.none-none.ensures) (empty_basis width a.m.states (bits width a.b.now 2) a.b.now), empty_cover width (mask c.none-none.result) a.b.now)
+    let a = c.args in
+    (c.requires.0.states, c.requires.0.states, omega (arith, c.requires.1), c.requires.0.initial, subst (λ p. BasisIn width a.m.states 0 p (bits width a.b.now 2) a.b.now) (sym c.none-none.ensures) (empty_basis width a.m.states (bits width a.b.now 2) a.b.now), empty_cover width (mask c.none-none.result) a.b.now)
 
 pub search-s-requires : goal.search-s-requires
 search-s-requires c =
-    let s = c in
-    let a = s.args in
+    let a = c.args in
     let q = c.place-q in
     let r = q.result in
-    (s.requires.0, searching_start a.m.letters a.t.now a.m.states (mask a.m.initial) (mask a.m.finals) a.b.now q.new.b a.out.now (mask r.row) r.size.count (mask r.size.pivots) (mask r.size.used) s.requires.1 s.requires.2 (placed (goal.at.search-s-requires c).After-place-q))
+    (c.requires.0, searching_start a.m.letters a.t.now a.m.states (mask a.m.initial) (mask a.m.finals) a.b.now q.new.b a.out.now (mask r.row) r.size.count (mask r.size.pivots) (mask r.size.used) c.requires.1 c.requires.2 (placed (goal.at.search-s-requires c).After-place-q))
 
 pub column-c-requires : goal.column-c-requires
 column-c-requires c =
-    let s = c in
-    let n = s.args.m.states in
+    let n = c.args.m.states in
     let f = c.search-s in
     let r = f.result in
     let b = f.new.b in
     let B = f.ensures.0.searching.search.basis in
-    (omega (arith, count_bound width n r.count (mask r.pivots) (bits width b 2) b B, s.requires.0.states), found_low width n r.count (mask r.pivots) (bits width b 2) b B)
+    (omega (arith, count_bound width n r.count (mask r.pivots) (bits width b 2) b B, c.requires.0.states), found_low width n r.count (mask r.pivots) (bits width b 2) b B)
 
 pub returns : goal.returns
 returns c =
-    let s = c in
-    let a = s.args in
+    let a = c.args in
     let f = c.search-s in
     let r = f.result in
     let p = c.place-q in
@@ -50,7 +46,7 @@ returns c =
     let i = start_row width a.m.states (mask a.m.initial) (bits width a.b.now 2) (bits width p.new.b 2) a.b.now p.new.b (mask q.row) q.size.count (mask q.size.pivots) (mask q.size.used) r.count (placed (goal.at.returns c).After-place-q) e.1 e.2 in (
       refl,
       (
-        searched_counts a.m.letters a.t.now a.m.states (mask a.m.initial) (mask a.m.finals) s.requires.0 f.new.b f.new.out a.most r.count (mask r.pivots) (mask r.used) e.0,
-        λ h. searched_end a.m.letters a.t.now a.m.states (mask a.m.initial) (mask a.m.finals) s.requires.0 f.new.b f.new.out a.most r.count (mask r.pivots) (mask r.used) (mask q.row) (mask k.result) e.0 h i.0 i.1 k.ensures.0 k.ensures.1,
+        searched_counts a.m.letters a.t.now a.m.states (mask a.m.initial) (mask a.m.finals) c.requires.0 f.new.b f.new.out a.most r.count (mask r.pivots) (mask r.used) e.0,
+        λ h. searched_end a.m.letters a.t.now a.m.states (mask a.m.initial) (mask a.m.finals) c.requires.0 f.new.b f.new.out a.most r.count (mask r.pivots) (mask r.used) (mask q.row) (mask k.result) e.0 h i.0 i.1 k.ensures.0 k.ensures.1,
       ),
     )

@@ -14,10 +14,9 @@ use Rattle.reduction.proofs.search.Goals as goal
 -- There are at most as many rows as a row has bits.
 few : (c : At-loop-k) → c.loop-k.r.count ≤ width
 few c =
-    let s = c in
-    let a = s.args in
+    let a = c.args in
     let v = c.loop-k in
-    omega (arith, count_bound width a.m.states v.r.count (mask v.r.pivots) (bits width v.b 2) v.b v.invariant.1.search.basis, s.requires.0.states)
+    omega (arith, count_bound width a.m.states v.r.count (mask v.r.pivots) (bits width v.b 2) v.b v.invariant.1.search.basis, c.requires.0.states)
 
 pub loop-k-init : goal.loop-k-init
 loop-k-init c = (omega arith, c.requires.1, omega arith, λ e. e)
@@ -32,16 +31,14 @@ overflow_sub-n c = omega arith
 
 pub overflow_mul-n : goal.overflow_mul-n
 overflow_mul-n c =
-    let s = c in
-    let n = s.args.m.states in
-    let e : n - c.loop-k.k ≤ width = omega (arith, s.requires.0.states) in
-    let h : (n - c.loop-k.k) * s.args.m.letters ≤ width * blocks = mul-le-mul e s.requires.0.letters in
+    let n = c.args.m.states in
+    let e : n - c.loop-k.k ≤ width = omega (arith, c.requires.0.states) in
+    let h : (n - c.loop-k.k) * c.args.m.letters ≤ width * blocks = mul-le-mul e c.requires.0.letters in
     omega (arith, h)
 
 pub look_up_rows-requires : goal.look_up_rows-requires
 look_up_rows-requires c =
-    let l = c in
-    (l.requires.0, l.loop-k.invariant.1, l.loop-k.invariant.0, c.if-r-n.true)
+    (c.requires.0, c.loop-k.invariant.1, c.loop-k.invariant.0, c.if-r-n.true)
 
 pub returns-then-n-k-ge-MANY : goal.returns-then-n-k-ge-MANY
 returns-then-n-k-ge-MANY c =
@@ -50,8 +47,7 @@ returns-then-n-k-ge-MANY c =
 
 pub expand-r-requires : goal.expand-r-requires
 expand-r-requires c =
-    let l = c in
-    (l.requires.0, l.loop-k.invariant.1, omega arith)
+    (c.requires.0, c.loop-k.invariant.1, omega arith)
 
 pub overflow_add-k : goal.overflow_add-k
 overflow_add-k c = omega (arith, few (goal.at.overflow_add-k c).At-loop-k)

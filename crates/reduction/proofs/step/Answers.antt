@@ -12,21 +12,18 @@ use Rattle.reduction.proofs.step.Goals as goal
 
 pub place-q-requires : goal.place-q-requires
 place-q-requires c =
-    let s = c in
-    let a = s.args in
-    let v = s.requires.0 in
-    (v.states, v.states, omega (arith, s.requires.1.base), subst (λ y. y < 2 ^ a.m.states) (sym s.requires.4) (product_lt a.m.states a.m.states (cell width a.b.now 1 a.k) (at a.t.now a.l) (λ i h. v.rows a.l i s.requires.3 h)), s.requires.1.search.basis, s.requires.1.cover)
+    let a = c.args in
+    let v = c.requires.0 in
+    (v.states, v.states, omega (arith, c.requires.1.base), subst (λ y. y < 2 ^ a.m.states) (sym c.requires.4) (product_lt a.m.states a.m.states (cell width a.b.now 1 a.k) (at a.t.now a.l) (λ i h. v.rows a.l i c.requires.3 h)), c.requires.1.search.basis, c.requires.1.cover)
 
 pub store-requires : goal.store-requires
 store-requires c =
-    let s = c in
-    let a = s.args in
-    (omega (arith, s.requires.0.letters, s.requires.3), omega (arith, count_bound width a.m.states a.s.count (mask a.s.pivots) (bits width a.b.now 2) a.b.now s.requires.1.search.basis, s.requires.0.states, s.requires.2))
+    let a = c.args in
+    (omega (arith, c.requires.0.letters, c.requires.3), omega (arith, count_bound width a.m.states a.s.count (mask a.s.pivots) (bits width a.b.now 2) a.b.now c.requires.1.search.basis, c.requires.0.states, c.requires.2))
 
 pub returns : goal.returns
 returns c =
-    let s = c in
-    let a = s.args in
+    let a = c.args in
     let n = a.m.states in
     let d = a.s.count in
     let p = mask a.s.pivots in
@@ -37,8 +34,8 @@ returns c =
     let z = q.result.size in
     let b = a.b.now in
     let e = q.new.b in (
-      searching_step a.m.letters a.t.now n (mask a.m.initial) (mask a.m.finals) s.requires.0 b a.out.now d a.k a.l p v s.requires.1 s.requires.2 s.requires.3
-          y s.requires.4 (mask x) z.count (mask z.pivots) (mask z.used) e c.store.new.t q.ensures c.store.ensures,
+      searching_step a.m.letters a.t.now n (mask a.m.initial) (mask a.m.finals) c.requires.0 b a.out.now d a.k a.l p v c.requires.1 c.requires.2 c.requires.3
+          y c.requires.4 (mask x) z.count (mask z.pivots) (mask z.used) e c.store.new.t q.ensures c.store.ensures,
       placed_more width n d p v y (bits width b 2) (bits width e 2) (bit_of (mask x)) b e z.count (mask z.pivots) (mask z.used) q.ensures,
-      placed_kept width n d p v y (bits width b 2) (bits width e 2) (bit_of (mask x)) b e z.count (mask z.pivots) (mask z.used) q.ensures a.k s.requires.2,
+      placed_kept width n d p v y (bits width b 2) (bits width e 2) (bit_of (mask x)) b e z.count (mask z.pivots) (mask z.used) q.ensures a.k c.requires.2,
     )

@@ -1,7 +1,6 @@
 -- `of_checked`: case by case.
 use mathlib.Core.Path.{sym, ap, ◌∙◌}
 use Rattle.replies.specs.Reply.{of_checked}
-use borrow.Author.Rules.{rules}
 use Rattle.replies.proofs.of_checked.Goals as goal
 
 pub returns-in-Good : goal.returns-in-Good

@@ -1,7 +1,6 @@
 -- `of_compared`: case by case.
 use mathlib.Core.Path.{sym, ap, ◌∙◌}
 use Rattle.replies.specs.Reply.{of_compared}
-use borrow.Author.Rules.{rules}
 use Rattle.replies.proofs.of_compared.Goals as goal
 
 pub returns-in-Same : goal.returns-in-Same

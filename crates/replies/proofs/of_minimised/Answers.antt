@@ -1,7 +1,6 @@
 -- `of_minimised`: case by case.
 use mathlib.Core.Path.{sym, ap, ◌∙◌}
 use Rattle.replies.specs.Reply.{of_minimised}
-use borrow.Author.Rules.{rules}
 use Rattle.replies.proofs.of_minimised.Goals as goal
 
 pub returns-in-Done : goal.returns-in-Done

@@ -1,7 +1,6 @@
 -- `of_tested`: case by case.
 use mathlib.Core.Path.{sym, ap, ◌∙◌}
 use Rattle.replies.specs.Reply.{of_tested}
-use borrow.Author.Rules.{rules}
 use Rattle.replies.proofs.of_tested.Goals as goal
 
 pub returns-in-Accepted : goal.returns-in-Accepted

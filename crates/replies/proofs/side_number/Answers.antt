@@ -1,6 +1,5 @@
 -- `side_number`: case by case.
 use mathlib.Core.Path.{sym, ap}
-use borrow.Author.Rules.{rules}
 use Rattle.replies.specs.Reply.{side_number}
 use Rattle.replies.proofs.side_number.Goals as goal
 

@@ -6,7 +6,6 @@ use Rattle.rows.specs.Row.{mask}
 use Rattle.rows.specs.Machine.{automaton_in, Bounded}
 use Rattle.record.specs.Outcome.{answer_of, buffer_of}
 use Rattle.results.proofs.ResultLaws.{result_over, result_within}
-use borrow.Author.Rules.{rules}
 use Rattle.results.proofs.finish.Goals as goal
 
 pub returns-then-d-gt-MAX_STATES : goal.returns-then-d-gt-MAX_STATES

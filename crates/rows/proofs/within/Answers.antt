@@ -19,5 +19,4 @@ returns-then-n-lt64 c = test_within c.args.x.bits c.args.n
 pub returns-else-n-lt64 : goal.returns-else-n-lt64
 unfolding mask
 returns-else-n-lt64 c =
-    let s = c in
-    sym (lt-ltb s.args.x.bits (2 ^ s.args.n) (lt_of_lt_of_le (fits s) (pow_mono c.if-n-lt64.false)))
+    sym (lt-ltb c.args.x.bits (2 ^ c.args.n) (lt_of_lt_of_le (fits c) (pow_mono c.if-n-lt64.false)))

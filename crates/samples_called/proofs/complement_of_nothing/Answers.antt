@@ -1,5 +1,4 @@
 -- `complement_of_nothing`: sample 4, the complement.
-use borrow.Author.Rules.{rules}
 use Rattle.record.specs.Bytes.{bytes_of, all_bytes}
 use Rattle.samples.specs.Claims.{inverse}
 use Rattle.samples.specs.Table.{no_states, one_state, samples}

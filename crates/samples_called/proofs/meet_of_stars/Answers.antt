@@ -1,5 +1,4 @@
 -- `meet_of_stars`: sample 6, the meet.
-use borrow.Author.Rules.{rules}
 use Rattle.record.specs.Bytes.{bytes_of, all_bytes}
 use Rattle.catalogue.specs.Entries.{record_of}
 use Rattle.samples.specs.Claims.{meet}

@@ -1,5 +1,4 @@
 -- `minimal_of_cycle`: sample 7.
-use borrow.Author.Rules.{rules}
 use Rattle.record.specs.Bytes.{bytes_of, all_bytes}
 use Rattle.catalogue.specs.Entries.{record_of}
 use Rattle.samples.specs.Table.{cycle, samples}

@@ -1,5 +1,4 @@
 -- `minimal_of_nonempty`: the case of the star.
-use borrow.Author.Rules.{rules}
 use Rattle.record.specs.Bytes.{bytes_of, all_bytes}
 use Rattle.samples.specs.Table.{nonempty, samples}
 use Rattle.samples.proofs.Samples.{samples_returned}

@@ -1,5 +1,4 @@
 -- `minimal_of_nothing`: sample 4, n = 0.
-use borrow.Author.Rules.{rules}
 use Rattle.record.specs.Bytes.{bytes_of, all_bytes}
 use Rattle.samples.specs.Table.{no_states, samples}
 use Rattle.samples.proofs.Samples.{samples_returned}

@@ -1,5 +1,4 @@
 -- `minimal_of_two_paths`: sample 5.
-use borrow.Author.Rules.{rules}
 use Rattle.record.specs.Bytes.{bytes_of, all_bytes}
 use Rattle.samples.specs.Table.{no_states, two_paths, samples}
 use Rattle.samples.proofs.Samples.{samples_returned}

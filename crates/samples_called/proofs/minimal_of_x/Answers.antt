@@ -1,6 +1,5 @@
 -- `minimal_of_x`: sample 2, and the length of the record.
 use mathlib.Core.Path.{refl, ap, ◌∙◌}
-use borrow.Author.Rules.{rules}
 use lib.ListN.{length}
 use Rattle.record.specs.Bytes.{bytes_of, all_bytes}
 use Rattle.record.specs.Outcome.{answer_of}

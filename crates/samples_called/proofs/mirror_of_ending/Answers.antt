@@ -1,5 +1,4 @@
 -- `mirror_of_ending`: sample 8.
-use borrow.Author.Rules.{rules}
 use Rattle.record.specs.Bytes.{bytes_of, all_bytes}
 use Rattle.record.specs.Record.{encode}
 use Rattle.catalogue.specs.Entries.{entry_of, letters_at, record_of}

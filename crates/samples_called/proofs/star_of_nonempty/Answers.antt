@@ -1,5 +1,4 @@
 -- `star_of_nonempty`: the case of the star.
-use borrow.Author.Rules.{rules}
 use Rattle.record.specs.Bytes.{bytes_of, all_bytes}
 use Rattle.samples.specs.Claims.{repetition}
 use Rattle.samples.specs.Table.{nonempty, empty_or_zero, samples}

@@ -1,5 +1,4 @@
 -- `sum_of_stars`: sample 6, the sum.
-use borrow.Author.Rules.{rules}
 use Rattle.record.specs.Bytes.{bytes_of, all_bytes}
 use Rattle.samples.specs.Claims.{sum}
 use Rattle.samples.specs.Table.{zero_star, one_star, star_sum, samples}

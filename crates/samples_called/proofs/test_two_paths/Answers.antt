@@ -1,6 +1,5 @@
 -- `test_two_paths`: sample 5, for every word.
 use mathlib.Core.Path.{◌∙◌}
-use borrow.Author.Rules.{rules}
 use Rattle.record.specs.Bytes.{bytes_of, all_bytes}
 use Rattle.samples.specs.Table.{two_paths, samples}
 use Rattle.samples.proofs.Samples.{samples_returned}

@@ -1,6 +1,5 @@
 -- `test_x`: sample 1, for every word.
 use mathlib.Core.Path.{◌∙◌}
-use borrow.Author.Rules.{rules}
 use Rattle.record.specs.Bytes.{bytes_of, all_bytes}
 use Rattle.catalogue.specs.Words.{entry_words}
 use Rattle.samples.specs.Table.{x12, samples}

@@ -1,6 +1,5 @@
 -- `x_against_all`: sample 3.
 use mathlib.Core.Path.{ap, ◌∙◌}
-use borrow.Author.Rules.{rules}
 use lib.ListN.{length}
 use Rattle.record.specs.Bytes.{bytes_of, all_bytes}
 use Rattle.record.specs.Record.{encode}

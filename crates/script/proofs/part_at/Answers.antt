@@ -32,13 +32,12 @@ returns-then-script-at c = end_met c.args.script.now c.args.at (omega arith)
 
 pub returns-in_default : goal.returns-in_default
 returns-in_default c =
-    let b = c in
-    let a = b.args in
+    let a = c.args in
     let told = c.in_default.is in
     c.refuse.ensures
     ∙ ap (λ (f : Checked). rows f End) told
     ∙ front_met a.script.now a.at (omega arith)
-    (ap front_of (sym (part_to_end a.script.now a.at)) ∙ sym b.check_front-front.ensures ∙ told)
+    (ap front_of (sym (part_to_end a.script.now a.at)) ∙ sym c.check_front-front.ensures ∙ told)
 
 pub need-whole-requires : goal.need-whole-requires
 need-whole-requires c =

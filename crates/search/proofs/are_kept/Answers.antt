@@ -10,9 +10,8 @@ use Rattle.search.proofs.are_kept.Goals as goal
 
 pub times_both-requires : goal.times_both-requires
 times_both-requires c =
-    let s = c in
-    let P = s.requires.0 in
-    (P.first, P.second, sym P.same, rw P.states at s.requires.1, refl)
+    let P = c.requires.0 in
+    (P.first, P.second, sym P.same, rw P.states at c.requires.1, refl)
 
 -- The line has the products of the row.
 made : (c : After-times_both) → Products c.args.m.letters c.args.m.states (mask c.args.x) (beside_of c.args.first.now c.args.second.now) c.times_both.new.s
@@ -20,10 +19,8 @@ made c = let P = c.requires.0 in rw (P.states, P.letters) c.times_both.ensures.1
 
 pub keeps-requires : goal.keeps-requires
 keeps-requires c =
-    let s = c in
-    (s.requires.2, (paired_sizes s.args.first.now s.args.second.now s.args.m s.requires.0).2)
+    (c.requires.2, (paired_sizes c.args.first.now c.args.second.now c.args.m c.requires.0).2)
 
 pub returns : goal.returns
 returns c =
-    let s = c in
-    λ e M T l h. subst (Kept s.args.g M) (made (goal.at.returns c).After-times_both l h) (c.keeps.ensures e M T l h)
+    λ e M T l h. subst (Kept c.args.g M) (made (goal.at.returns c).After-times_both l h) (c.keeps.ensures e M T l h)

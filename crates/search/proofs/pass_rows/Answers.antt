@@ -1,10 +1,8 @@
 -- `pass_rows`: the rows from k to j are done for every trail.
-use mathlib.Core.Path.{refl, sym, ap, ◌∙◌}
-use mathlib.Core.Bool.{not}
+use mathlib.Core.Path.{refl}
 use mathlib.Core.List.{List}
-use Prim.Native.Nat.{ℕ, ◌-◌, ◌≤◌}
+use Prim.Native.Nat.{ℕ}
 use native.Mathlib.Omega.{arith}
-use Rattle.automata.proofs.Xor.{not_not}
 use Rattle.rows.specs.Row.{mask}
 use Rattle.basis.specs.Basis.{cell}
 use Rattle.lookup.specs.Lookup.{chosen}
@@ -19,10 +17,10 @@ use Rattle.search.proofs.pass_rows.Goals as goal
 
 -- Where row j is next; the search is there for some trail.
 next : (c : At-loop-j) → (w : List ℕ) × HuntingIn c.args.stride c.args.first.now c.args.second.now c.args.m c.args.b.now w c.args.s c.loop-j.j 0
-next c = let s = c in (s.requires.1.0, c.loop-j.invariant.2 s.requires.1.0 s.requires.1.1)
+next c = (c.requires.1.0, c.loop-j.invariant.2 c.requires.1.0 c.requires.1.1)
 
 pub fill-g-requires : goal.fill-g-requires
-fill-g-requires c = let s = c in (s.requires.1.1.base, s.requires.3, omega arith, refl)
+fill-g-requires c = (c.requires.1.1.base, c.requires.3, omega arith, refl)
 
 pub loop-j-init : goal.loop-j-init
 loop-j-init c = (omega arith, c.requires.2, λ w H. H)
@@ -35,11 +33,10 @@ get-x-requires c =
 
 pub are_kept-requires : goal.are_kept-requires
 are_kept-requires c =
-    let s = c in
-    let a = s.args in
+    let a = c.args in
     let v = c.loop-j in
     let N = next (goal.at.are_kept-requires c).At-loop-j in
-    (s.requires.0, found_below a.stride a.m.letters (beside_of a.first.now a.second.now) a.m.states (mask a.m.initial) (mask a.m.finals) a.b.now N.0 a.s.count v.j 0 (mask a.s.pivots) (mask a.s.used) (mask c.get-x.result) N.1 c.loop-j-test.true c.get-x.ensures, c.fill-g.ensures.0)
+    (c.requires.0, found_below a.stride a.m.letters (beside_of a.first.now a.second.now) a.m.states (mask a.m.initial) (mask a.m.finals) a.b.now N.0 a.s.count v.j 0 (mask a.s.pivots) (mask a.s.used) (mask c.get-x.result) N.1 c.loop-j-test.true c.get-x.ensures, c.fill-g.ensures.0)
 
 pub returns-then-not-are_kept : goal.returns-then-not-are_kept
 returns-then-not-are_kept c = let v = c.loop-j in (v.invariant.2, v.invariant.0, v.invariant.1)
@@ -52,8 +49,7 @@ loop-j-smaller c = omega (arith, c.loop-j-test.true)
 
 pub loop-j-preserved : goal.loop-j-preserved
 loop-j-preserved c =
-    let s = c in
-    let a = s.args in
+    let a = c.args in
     let m = a.m in
     let bs = a.first.now in
     let cs = a.second.now in
@@ -61,7 +57,7 @@ loop-j-preserved c =
     let t = c.fill-g.ensures in
     let x = c.get-x in
     let h = c.loop-j-test.true in
-    (omega arith, omega (arith, h), λ w H. row_kept a.stride m.letters (beside_of bs cs) m.states (mask m.initial) (mask m.finals) (paired_rows bs cs m s.requires.0) a.b.now w a.s.count (mask a.s.pivots) (mask a.s.used) c.fill-g.result t.1 v.j (mask x.result) h x.ensures (c.are_kept.ensures c.if-not-are_kept.false (chosen (mask a.s.pivots) (cell a.stride a.b.now 0)) t.2) (v.invariant.2 w H))
+    (omega arith, omega (arith, h), λ w H. row_kept a.stride m.letters (beside_of bs cs) m.states (mask m.initial) (mask m.finals) (paired_rows bs cs m c.requires.0) a.b.now w a.s.count (mask a.s.pivots) (mask a.s.used) c.fill-g.result t.1 v.j (mask x.result) h x.ensures (c.are_kept.ensures c.if-not-are_kept.false (chosen (mask a.s.pivots) (cell a.stride a.b.now 0)) t.2) (v.invariant.2 w H))
 
 pub returns : goal.returns
 returns c = let v = c.loop-j in (v.invariant.2, v.invariant.0, v.invariant.1)

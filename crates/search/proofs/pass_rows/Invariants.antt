@@ -1,19 +1,7 @@
 -- `pass_rows`: the rows from k to j are done for every trail.
-use mathlib.Core.Path.{refl, sym, ap, ◌∙◌}
-use mathlib.Core.Bool.{not}
 use mathlib.Core.List.{List}
 use Prim.Native.Nat.{ℕ, ◌-◌, ◌≤◌}
-use native.Mathlib.Omega.{arith}
-use Rattle.automata.proofs.Xor.{not_not}
-use Rattle.rows.specs.Row.{mask}
-use Rattle.basis.specs.Basis.{cell}
-use Rattle.lookup.specs.Lookup.{chosen}
-use Rattle.reduction.proofs.TableSearch.{count_bound}
-use Rattle.hunt.specs.Both.{beside_of}
 use Rattle.hunt.specs.Hunt.{HuntingIn}
-use Rattle.hunt.proofs.BothLaws.{paired_rows}
-use Rattle.search.proofs.TryLaws.{found_below}
-use Rattle.search.proofs.PassLaws.{row_kept}
 use Rattle.search.proofs.pass_rows.Given as goal
 
 abbrev pub invariant-loop-j : goal.invariant-loop-j

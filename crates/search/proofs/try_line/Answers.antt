@@ -1,15 +1,14 @@
 -- `try_line`: the products stand in a line, and each letter is tried in turn.
 use mathlib.Core.Path.{◌≡◌, refl, sym, ap, ◌∙◌}
-use Prim.Native.Nat.{◌-◌, ◌^◌, ◌<◌}
+use Prim.Native.Nat.{◌^◌, ◌<◌}
 use native.Mathlib.Omega.{arith}
-use borrow.Author.Rules.{rules}
 use Rattle.rows.specs.Row.{mask}
 use Rattle.rows.specs.Product.{product}
 use Rattle.kernels.specs.Products.{Products}
 use Rattle.hunt.specs.Both.{beside_of}
 use Rattle.hunt.proofs.BothLaws.{paired_sizes}
 use Rattle.hunt.proofs.HuntLaws.{hunting_next}
-use Rattle.search.proofs.TryLaws.{Trying, found_below}
+use Rattle.search.proofs.TryLaws.{found_below}
 use Rattle.search.proofs.try_line.Goals.{After-times_both, Start}
 use Rattle.search.proofs.try_line.Goals as goal
 
@@ -19,9 +18,8 @@ low s = let a = s.args in found_below a.stride a.m.letters (beside_of a.first.no
 
 pub times_both-requires : goal.times_both-requires
 times_both-requires c =
-    let s = c in
-    let P = s.requires.0 in
-    (P.first, P.second, sym P.same, rw P.states at (low (goal.at.times_both-requires s).Start), refl)
+    let P = c.requires.0 in
+    (P.first, P.second, sym P.same, rw P.states at (low (goal.at.times_both-requires c).Start), refl)
 
 -- The line has the products of the row.
 made : (c : After-times_both) → Products c.args.m.letters c.args.m.states (mask c.args.x) (beside_of c.args.first.now c.args.second.now) c.times_both.new.s
@@ -30,30 +28,27 @@ made c =
     rw (P.states, P.letters) c.times_both.ensures.1
 
 pub loop-l-init : goal.loop-l-init
-loop-l-init c = let s = c in (omega arith, s.requires.1, omega arith, refl, refl)
+loop-l-init c = (omega arith, c.requires.1, omega arith, refl, refl)
 
 pub pick-z-requires : goal.pick-z-requires
 pick-z-requires c =
-    let s = c in
-    let a = s.args in
-    omega (arith, c.loop-l-test.true, (paired_sizes a.first.now a.second.now a.m s.requires.0).2)
+    let a = c.args in
+    omega (arith, c.loop-l-test.true, (paired_sizes a.first.now a.second.now a.m c.requires.0).2)
 
 pub try_pair-h-requires : goal.try_pair-h-requires
 try_pair-h-requires c =
     let v = c.loop-l in
-    let s = c in
-    let a = s.args in
+    let a = c.args in
     let h = c.loop-l-test.true in
-    (s.requires.0, v.invariant.1, omega (arith, v.invariant.2, s.requires.2), omega (arith, h), c.pick-z.ensures ∙ made (goal.at.try_pair-h-requires c).After-times_both v.l (omega (arith, h)) ∙ ap (λ x. product a.m.states x (beside_of a.first.now a.second.now v.l)) (s.requires.3 ∙ sym v.invariant.3))
+    (c.requires.0, v.invariant.1, omega (arith, v.invariant.2, c.requires.2), omega (arith, h), c.pick-z.ensures ∙ made (goal.at.try_pair-h-requires c).After-times_both v.l (omega (arith, h)) ∙ ap (λ x. product a.m.states x (beside_of a.first.now a.second.now v.l)) (c.requires.3 ∙ sym v.invariant.3))
 
 pub returns-in_default : goal.returns-in_default
 returns-in_default c = rw c.in_default.is (rw c.in_default.is at c.try_pair-h.ensures.0)
 
 pub overflow_add-l : goal.overflow_add-l
 overflow_add-l c =
-    let s = c in
-    let a = s.args in
-    omega (arith, c.loop-l-test.true, (paired_sizes a.first.now a.second.now a.m s.requires.0).2)
+    let a = c.args in
+    omega (arith, c.loop-l-test.true, (paired_sizes a.first.now a.second.now a.m c.requires.0).2)
 
 pub loop-l-smaller : goal.loop-l-smaller
 loop-l-smaller c = omega (arith, c.loop-l-test.true)

@@ -1,7 +1,6 @@
 -- `try_many`: the letters of the row, then the rows passed over.
 use Prim.Native.Nat.{◌+◌, ◌<◌}
 use native.Mathlib.Omega.{arith}
-use borrow.Author.Rules.{rules}
 use Rattle.rows.specs.Row.{width, mask}
 use Rattle.reduction.proofs.TableSearch.{count_bound}
 use Rattle.hunt.specs.Both.{beside_of}
@@ -19,10 +18,9 @@ below s =
 
 pub returns-in_default : goal.returns-in_default
 returns-in_default c =
-    let s = c in
-    let a = s.args in
+    let a = c.args in
     let t = c.try_letters-h in
-    (hunted_from a.stride a.m.letters (beside_of a.first.now a.second.now) a.m.states (mask a.m.initial) (mask a.m.finals) t.new.b t.new.w (a.k + 1) a.s.count (a.k + 1) 0 t.result (omega (arith, s.requires.2)) t.ensures, omega arith)
+    (hunted_from a.stride a.m.letters (beside_of a.first.now a.second.now) a.m.states (mask a.m.initial) (mask a.m.finals) t.new.b t.new.w (a.k + 1) a.s.count (a.k + 1) 0 t.result (omega (arith, c.requires.2)) t.ensures, omega arith)
 
 pub overflow_add-result-then-stride-lt-WIDEST : goal.overflow_add-result-then-stride-lt-WIDEST
 overflow_add-result-then-stride-lt-WIDEST c = omega (arith, below (goal.at.overflow_add-result-then-stride-lt-WIDEST c).Start)
@@ -39,10 +37,9 @@ returns-then-s-r c =
 
 pub pass_rows-requires : goal.pass_rows-requires
 pass_rows-requires c =
-    let s = c in
     let t = c.try_letters-h in
     let e = rw c.in-Going.is at t.ensures in
-    (s.requires.0, (t.new.w, e.0), omega (arith, e.1, s.requires.2), c.if-stride-lt-WIDEST.false)
+    (c.requires.0, (t.new.w, e.0), omega (arith, e.1, c.requires.2), c.if-stride-lt-WIDEST.false)
 
 pub returns : goal.returns
 returns c =

@@ -1,24 +1,19 @@
 -- `try_rows`: the rows below k are done, and no row found is accepted; the basis is as long as it was. There are never more rows than bits.
 use mathlib.Core.Path.{◌≡◌, refl}
-use Prim.Native.Nat.{◌-◌, ◌≤◌}
+use Prim.Native.Nat.{◌≤◌}
 use native.Mathlib.Omega.{arith}
-use borrow.Author.Rules.{rules}
-use lib.ListN.{length}
 use Rattle.rows.specs.Row.{width, mask}
 use Rattle.reduction.proofs.TableSearch.{count_bound}
-use Rattle.hunt.specs.Both.{beside_of}
-use Rattle.hunt.specs.Hunt.{Hunting}
 use Rattle.hunt.proofs.BothLaws.{paired_sizes}
 use Rattle.search.proofs.try_rows.Goals.{At-loop-k}
 use Rattle.search.proofs.try_rows.Goals as goal
 
 below : (c : At-loop-k) → c.loop-k.r.count ≤ width
 below c =
-    let s = c in
-    let a = s.args in
+    let a = c.args in
     let v = c.loop-k in
     let H = v.invariant.1 in
-    omega (arith, count_bound a.stride a.m.states v.r.count (mask v.r.pivots) H.coef v.b H.search.basis, (paired_sizes a.first.now a.second.now a.m s.requires.0).1)
+    omega (arith, count_bound a.stride a.m.states v.r.count (mask v.r.pivots) H.coef v.b H.search.basis, (paired_sizes a.first.now a.second.now a.m c.requires.0).1)
 
 pub loop-k-init : goal.loop-k-init
 loop-k-init c = (omega arith, c.requires.1, refl)

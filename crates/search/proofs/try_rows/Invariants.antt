@@ -1,14 +1,10 @@
 -- `try_rows`: the rows below k are done, and no row found is accepted; the basis is as long as it was. There are never more rows than bits.
-use mathlib.Core.Path.{◌≡◌, refl}
+use mathlib.Core.Path.{◌≡◌}
 use Prim.Native.Nat.{◌-◌, ◌≤◌}
-use native.Mathlib.Omega.{arith}
-use borrow.Author.Rules.{rules}
 use lib.ListN.{length}
 use Rattle.rows.specs.Row.{width, mask}
-use Rattle.reduction.proofs.TableSearch.{count_bound}
 use Rattle.hunt.specs.Both.{beside_of}
 use Rattle.hunt.specs.Hunt.{Hunting}
-use Rattle.hunt.proofs.BothLaws.{paired_sizes}
 use Rattle.search.proofs.try_rows.Given as goal
 
 abbrev pub invariant-loop-k : goal.invariant-loop-k

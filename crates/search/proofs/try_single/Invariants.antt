@@ -1,15 +1,6 @@
 -- `try_single`: each letter is tried with the product made for it, two rows read.
-use mathlib.Core.Path.{◌≡◌, refl, sym, ap, ◌∙◌}
-use Prim.Native.Nat.{◌-◌, ◌^◌, ◌<◌}
-use native.Mathlib.Omega.{arith}
-use borrow.Author.Rules.{rules}
-use Rattle.rows.specs.Row.{mask}
-use Rattle.rows.specs.Product.{product}
-use Rattle.hunt.specs.Both.{beside_of}
-use Rattle.hunt.proofs.BothLaws.{paired_sizes}
-use Rattle.hunt.proofs.HuntLaws.{hunting_next}
-use Rattle.search.proofs.TryLaws.{Trying, found_below}
-use Rattle.record.proofs.Refusals.{good_check}
+use Prim.Native.Nat.{◌-◌}
+use Rattle.search.proofs.TryLaws.{Trying}
 use Rattle.search.proofs.try_single.Given as goal
 
 abbrev pub invariant-loop-l : goal.invariant-loop-l

@@ -1,13 +1,6 @@
 -- `try_three`: the three products are made, and each letter is tried in turn.
-use mathlib.Core.Path.{◌≡◌, refl, sym, ap, ◌∙◌}
-use Prim.Native.Nat.{◌-◌, ◌^◌, ◌<◌}
-use native.Mathlib.Omega.{arith}
-use borrow.Author.Rules.{rules}
-use Rattle.rows.specs.Row.{mask}
-use Rattle.rows.specs.Product.{product}
-use Rattle.hunt.specs.Both.{beside_of}
-use Rattle.hunt.proofs.HuntLaws.{hunting_next}
-use Rattle.search.proofs.TryLaws.{Trying, found_below}
+use Prim.Native.Nat.{◌-◌}
+use Rattle.search.proofs.TryLaws.{Trying}
 use Rattle.search.proofs.try_three.Given as goal
 
 abbrev pub invariant-loop-l : goal.invariant-loop-l

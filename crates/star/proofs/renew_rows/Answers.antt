@@ -1,10 +1,9 @@
 -- `renew_rows`: the rows of the letters below l are renewed.
 use mathlib.Core.Path.{◌≡◌, subst}
-use Prim.Native.Nat.{◌+◌, ◌-◌, ◌≤◌}
+use Prim.Native.Nat.{◌+◌}
 use native.Mathlib.Omega.{arith}
 use Rattle.rows.specs.Row.{mask}
 use Rattle.rows.specs.Table.{at}
-use Rattle.direct_sum.specs.Filled.{ChangedUpTo}
 use Rattle.direct_sum.proofs.Changing.{up_to_start, up_to_step, up_to_end}
 use Rattle.star.specs.Renewed.{star_rows}
 use Rattle.star.proofs.RenewedLaws.{renewed_same}
@@ -20,9 +19,8 @@ times-r-requires c = omega arith
 
 pub renew_block-requires : goal.renew_block-requires
 renew_block-requires c =
-    let s = c in
     let v = c.loop-l in
-    (omega arith, s.requires.1, v.invariant.1.size)
+    (omega arith, c.requires.1, v.invariant.1.size)
 
 pub overflow_add-l : goal.overflow_add-l
 overflow_add-l c = omega arith
@@ -32,8 +30,7 @@ loop-l-smaller c = omega arith
 
 pub loop-l-preserved : goal.loop-l-preserved
 loop-l-preserved c =
-    let s = c in
-    let a = s.args in
+    let a = c.args in
     let v = c.loop-l in
     let t = a.t.now in
     let r = c.times-r in
@@ -41,7 +38,7 @@ loop-l-preserved c =
       omega arith,
       up_to_step (a.n + 1) (star_rows (at t) a.n (mask a.i) (mask a.f)) t v.l v.t c.renew_block.new.t (omega arith) b.others
           (λ k q. subst (λ x. at c.renew_block.new.t v.l k ≡ x)
-          (renewed_same a.n (mask a.i) (mask a.f) (mask r.result) (at v.t v.l) (at t v.l) (λ j p. v.invariant.1.rest v.l j (omega arith) (omega arith)) (r.ensures a.n s.requires.2) k) (b.rows k q)) b.size v.invariant.1,
+          (renewed_same a.n (mask a.i) (mask a.f) (mask r.result) (at v.t v.l) (at t v.l) (λ j p. v.invariant.1.rest v.l j (omega arith) (omega arith)) (r.ensures a.n c.requires.2) k) (b.rows k q)) b.size v.invariant.1,
     )
 
 pub returns : goal.returns

@@ -1,13 +1,9 @@
 -- `renew_rows`: the rows of the letters below l are renewed.
-use mathlib.Core.Path.{◌≡◌, subst}
 use Prim.Native.Nat.{◌+◌, ◌-◌, ◌≤◌}
-use native.Mathlib.Omega.{arith}
 use Rattle.rows.specs.Row.{mask}
 use Rattle.rows.specs.Table.{at}
 use Rattle.direct_sum.specs.Filled.{ChangedUpTo}
-use Rattle.direct_sum.proofs.Changing.{up_to_start, up_to_step, up_to_end}
 use Rattle.star.specs.Renewed.{star_rows}
-use Rattle.star.proofs.RenewedLaws.{renewed_same}
 use Rattle.star.proofs.renew_rows.Given as goal
 
 abbrev pub invariant-loop-l : goal.invariant-loop-l

@@ -3,19 +3,17 @@ use mathlib.Core.Path.{refl, ap, ◌∙◌}
 use lib.Bits.{bit_xor}
 use Rattle.rows.specs.Row.{mask}
 use Rattle.star.proofs.BuiltLaws.{star_built}
-use borrow.Author.Rules.{rules}
 use Rattle.star.proofs.repeat.Goals as goal
 
 pub renew_rows-requires : goal.renew_rows-requires
-renew_rows-requires c = let s = c in (s.requires.0.letters, s.requires.1, s.requires.0.initial, s.requires.0.size)
+renew_rows-requires c = (c.requires.0.letters, c.requires.1, c.requires.0.initial, c.requires.0.size)
 
 pub unit-new-requires : goal.unit-new-requires
 unit-new-requires c = c.requires.1
 
 pub returns : goal.returns
 returns c =
-    let s = c in
-    let a = s.args in
+    let a = c.args in
     let o = c.renew_rows in
     let u = c.unit-new in
-    star_built a.t.now o.new.t a.g s.requires.0 s.requires.1 o.ensures _ refl refl u.ensures (c.xor-finals.ensures ∙ ap (bit_xor (mask a.g.finals)) u.ensures)
+    star_built a.t.now o.new.t a.g c.requires.0 c.requires.1 o.ensures _ refl refl u.ensures (c.xor-finals.ensures ∙ ap (bit_xor (mask a.g.finals)) u.ensures)

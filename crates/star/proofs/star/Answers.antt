@@ -8,7 +8,6 @@ use Rattle.record.specs.declared.Written.TheVariants.{Refused}
 use Rattle.record.proofs.Refusals.{good_check}
 use Rattle.star.proofs.BuiltLaws.{star_held}
 use Rattle.star.proofs.StarLaws.{empty_held, star_refused, star_empty, star_refuses, star_gives}
-use borrow.Author.Rules.{rules}
 use Rattle.star.proofs.star.Goals.{In-Good}
 use Rattle.star.proofs.star.Goals as goal
 
@@ -30,10 +29,9 @@ read-g-requires c = (passed (goal.at.read-g-requires c).In-Good, refl)
 pub returns-then-parity : goal.returns-then-parity
 returns-then-parity c =
     let g = c.read-g in
-    let e = c in
-    let a = e.args in
+    let a = c.args in
     let empty = empty_held a.bytes.now g.new.t g.result g.ensures ∙ sym (c.parity.ensures g.result.states g.ensures.valid.initial) ∙ c.if-parity.true in
-    let p = star_refuses a.bytes.now a.out.now 14 1 0 (Refused 14 1 0) (star_empty a.bytes.now (length a.out.now) (passed (goal.at.returns-then-parity e).In-Good) empty) refl in
+    let p = star_refuses a.bytes.now a.out.now 14 1 0 (Refused 14 1 0) (star_empty a.bytes.now (length a.out.now) (passed (goal.at.returns-then-parity c).In-Good) empty) refl in
     record { answer = p.0; buffer = p.1.0; claims = p.1.1 }
 
 pub repeat-m-requires : goal.repeat-m-requires
@@ -49,11 +47,9 @@ pub returns : goal.returns
 returns c =
     let f = c.finish in
     let m = c.repeat-m in
-    let k = c in
-    let g = k.read-g in
-    let e = k in
-    let a = e.args in
-    let lacks = empty_held a.bytes.now g.new.t g.result g.ensures ∙ sym (k.parity.ensures g.result.states g.ensures.valid.initial) ∙ k.if-parity.false in
-    let p = star_gives a.bytes.now a.out.now m.new.t m.result f.new.out f.result (passed (goal.at.returns e).In-Good, lacks)
+    let g = c.read-g in
+    let a = c.args in
+    let lacks = empty_held a.bytes.now g.new.t g.result g.ensures ∙ sym (c.parity.ensures g.result.states g.ensures.valid.initial) ∙ c.if-parity.false in
+    let p = star_gives a.bytes.now a.out.now m.new.t m.result f.new.out f.result (passed (goal.at.returns c).In-Good, lacks)
     (star_held a.bytes.now g.new.t m.new.t g.result m.result g.ensures m.ensures) f.ensures.answer f.ensures.buffer in
     record { answer = p.0; buffer = p.1.0; claims = p.1.1 }

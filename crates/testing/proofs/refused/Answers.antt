@@ -1,5 +1,4 @@
 -- `refused`: by cases on what the checks found.
-use borrow.Author.Rules.{rules}
 use Rattle.testing.proofs.refused.Goals as goal
 
 pub returns-in-Refused : goal.returns-in-Refused

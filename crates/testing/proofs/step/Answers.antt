@@ -1,6 +1,5 @@
 -- `step`: by whether the letter is one of the machine's.
 use borrow.Author.Tests.{lt-ltb, le-ltb}
-use borrow.Author.Rules.{rules}
 use native.Mathlib.Omega.{arith}
 use Rattle.testing.proofs.step.Goals as goal
 

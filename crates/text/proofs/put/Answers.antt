@@ -1,9 +1,8 @@
 -- `put`: the bytes passed are stored.
 use mathlib.Core.Path.{◌≡◌, refl, ◌∙◌}
-use Prim.Native.Nat.{◌-◌, ◌≤◌}
 use native.Mathlib.Omega.{arith}
-use lib.ListN.{length, take}
-use lib.Seq.{sets, length-sets, take_all}
+use lib.ListN.{length}
+use lib.Seq.{length-sets, take_all}
 use Rattle.text.proofs.Runs.{run_more}
 use Rattle.text.proofs.put.Goals as goal
 
@@ -27,9 +26,8 @@ loop-i-smaller c = omega arith
 
 pub loop-i-preserved : goal.loop-i-preserved
 loop-i-preserved c =
-    let b = c in
-    let a = b.args in
-    (omega arith, rw b.loop-i.invariant.1 (run_more a.line.now a.run.now a.at b.loop-i.i (omega arith)))
+    let a = c.args in
+    (omega arith, rw c.loop-i.invariant.1 (run_more a.line.now a.run.now a.at c.loop-i.i (omega arith)))
 
 pub overflow_add-result : goal.overflow_add-result
 overflow_add-result c = omega arith

@@ -1,14 +1,12 @@
 -- `put_word`: the digits of the letters passed are stored.
 use mathlib.Core.Path.{◌≡◌, refl, ap, ◌∙◌}
-use Prim.Native.Nat.{◌-◌, ◌≤◌}
 use native.Mathlib.Omega.{arith}
-use lib.ListN.{length, take}
-use lib.Seq.{sets, length-sets, take_all}
+use lib.ListN.{length}
+use lib.Seq.{length-sets, take_all}
 use Rattle.automata.proofs.Shortlex.{over_at}
 use Rattle.text.specs.Text.{word_text}
 use Rattle.text.proofs.Runs.{run_more}
 use Rattle.text.proofs.Words.{word_none, word_length, word_digit}
-use borrow.Author.Rules.{rules}
 use Rattle.text.proofs.put_word.Goals.{Else-word-eq0, Then-word-eq0}
 use Rattle.text.proofs.put_word.Goals as goal
 
@@ -28,8 +26,7 @@ shape_of-line-then-word-eq0 c = c.put.auto.line
 pub returns-then-word-eq0 : goal.returns-then-word-eq0
 returns-then-word-eq0 c =
     let p = c.put in
-    let s = c in
-    let w = word_none s.args.word.now s.if-word-eq0.true in
+    let w = word_none c.args.word.now c.if-word-eq0.true in
     rw w p.ensures
 
 pub loop-i-init : goal.loop-i-init
@@ -40,9 +37,7 @@ bounds-word-i c = omega arith
 
 pub digit-requires : goal.digit-requires
 digit-requires c =
-    let l = c in
-    let s = l in
-    over_at 10 s.args.word.now s.requires.0 l.loop-i.i c.loop-i-test.true
+    over_at 10 c.args.word.now c.requires.0 c.loop-i.i c.loop-i-test.true
 
 pub overflow_add-line : goal.overflow_add-line
 overflow_add-line c = let l = digits (goal.at.overflow_add-line c).Else-word-eq0 in omega arith
@@ -60,11 +55,10 @@ loop-i-smaller c = omega arith
 
 pub loop-i-preserved : goal.loop-i-preserved
 loop-i-preserved c =
-    let b = c in
-    let a = b.args in
-    let l = digits (goal.at.overflow_add-line b).Else-word-eq0 in
-    let w = word_digit a.word.now b.loop-i.i (omega arith) in
-    (omega arith, rw (b.loop-i.invariant.1, c.digit.ensures, ← w) (run_more a.line.now (word_text a.word.now) a.at b.loop-i.i (omega arith)))
+    let a = c.args in
+    let l = digits (goal.at.overflow_add-line c).Else-word-eq0 in
+    let w = word_digit a.word.now c.loop-i.i (omega arith) in
+    (omega arith, rw (c.loop-i.invariant.1, c.digit.ensures, ← w) (run_more a.line.now (word_text a.word.now) a.at c.loop-i.i (omega arith)))
 
 pub overflow_add-result : goal.overflow_add-result
 overflow_add-result c = let l = digits (goal.at.overflow_add-result c).Else-word-eq0 in omega arith
@@ -74,7 +68,6 @@ shape_of-line c = rw (c.loop-i.invariant.1, length-sets)
 
 pub returns : goal.returns
 returns c =
-    let b = c in
-    let l = digits (goal.at.overflow_add-result b).Else-word-eq0 in
-    let w = word_text b.args.word.now in
-    (omega arith, b.loop-i.invariant.1 ∙ rw (take_all b.loop-i.i w (omega arith)))
+    let l = digits (goal.at.overflow_add-result c).Else-word-eq0 in
+    let w = word_text c.args.word.now in
+    (omega arith, c.loop-i.invariant.1 ∙ rw (take_all c.loop-i.i w (omega arith)))

@@ -1,14 +1,9 @@
 -- `put_word`: the digits of the letters passed are stored.
-use mathlib.Core.Path.{◌≡◌, refl, ap, ◌∙◌}
+use mathlib.Core.Path.{◌≡◌}
 use Prim.Native.Nat.{◌-◌, ◌≤◌}
-use native.Mathlib.Omega.{arith}
 use lib.ListN.{length, take}
-use lib.Seq.{sets, length-sets, take_all}
-use Rattle.automata.proofs.Shortlex.{over_at}
+use lib.Seq.{sets}
 use Rattle.text.specs.Text.{word_text}
-use Rattle.text.proofs.Runs.{run_more}
-use Rattle.text.proofs.Words.{word_none, word_length, word_digit}
-use borrow.Author.Rules.{rules}
 use Rattle.text.proofs.put_word.Given as goal
 
 abbrev pub invariant-loop-i : goal.invariant-loop-i

@@ -9,10 +9,8 @@ use Rattle.trail.proofs.depth.Goals as goal
 -- The row before is an earlier one, and its word one letter shorter.
 up : (c : After-from-r) → (c.from-r.result < c.loop-r.r) × (depth c.args.w.now c.loop-r.r ≡ depth c.args.w.now c.from-r.result + 1)
 up c =
-    let l = c in
-    let s = c in
-    let a = s.args in
-    rw c.from-r.ensures (s.requires.parent l.loop-r.r (omega arith) (omega arith), depth_child a.a a.k a.w.now s.requires l.loop-r.r (omega arith) (omega arith))
+    let a = c.args in
+    rw c.from-r.ensures (c.requires.parent c.loop-r.r (omega arith) (omega arith), depth_child a.a a.k a.w.now c.requires c.loop-r.r (omega arith) (omega arith))
 
 pub loop-r-init : goal.loop-r-init
 loop-r-init c = (omega arith, omega arith)

@@ -12,18 +12,15 @@ use Rattle.trail.proofs.trace.Goals as goal
 -- What a turn starts from: the word of the row has a letter, and there is room for it.
 ahead : (c : In-loop-r) → (0 < c.loop-r.r) × (c.loop-r.r ≤ c.args.k) × (c.loop-r.p ≤ length c.args.word.now) × (0 < c.loop-r.p) × (c.args.k < width)
 ahead c =
-    let l = c in
-    let s = c in
-    let a = s.args in
-    let w = l.loop-r.invariant in
-    let d = depth_child a.a a.k a.w.now s.requires.0 l.loop-r.r (omega arith) w.within in
-    (omega arith, w.within, omega (arith, w.less, s.requires.2), omega (arith, d, w.place), s.requires.0.small)
+    let a = c.args in
+    let w = c.loop-r.invariant in
+    let d = depth_child a.a a.k a.w.now c.requires.0 c.loop-r.r (omega arith) w.within in
+    (omega arith, w.within, omega (arith, w.less, c.requires.2), omega (arith, d, w.place), c.requires.0.small)
 
 pub loop-r-init : goal.loop-r-init
 loop-r-init c =
-    let s = c in
-    let a = s.args in
-    rw s.requires.1 (writing_start a.a a.k a.w.now s.requires.0 a.word.now)
+    let a = c.args in
+    rw c.requires.1 (writing_start a.a a.k a.w.now c.requires.0 a.word.now)
 
 pub overflow_sub-p : goal.overflow_sub-p
 overflow_sub-p c = omega (arith, (ahead c).3)
@@ -51,10 +48,9 @@ pub loop-r-preserved : goal.loop-r-preserved
 unfolding by_in
 loop-r-preserved c =
     let v = c.loop-r in
-    let s = c in
-    let a = s.args in
+    let a = c.args in
     let h = ahead (goal.at.loop-r-smaller c).In-loop-r in
-    rw c.from-r.ensures (writing_step a.a a.k a.w.now s.requires.0 a.n v.r v.p a.word.now v.word h.0 s.requires.2 v.invariant)
+    rw c.from-r.ensures (writing_step a.a a.k a.w.now c.requires.0 a.n v.r v.p a.word.now v.word h.0 c.requires.2 v.invariant)
 
 pub shape_of-word : goal.shape_of-word
 shape_of-word c = c.loop-r.invariant.size
@@ -62,8 +58,7 @@ shape_of-word c = c.loop-r.invariant.size
 pub returns : goal.returns
 returns c =
     let v = c.loop-r in
-    let s = c in
-    let a = s.args in
+    let a = c.args in
     let z : v.r ≡ 0 = omega arith in
-    let e = s.requires.1 in
-    rw e (writing_end a.a a.k a.w.now s.requires.0 a.word.now v.word v.p (rw e at s.requires.2) (rw (z, e) at v.invariant))
+    let e = c.requires.1 in
+    rw e (writing_end a.a a.k a.w.now c.requires.0 a.word.now v.word v.p (rw e at c.requires.2) (rw (z, e) at v.invariant))

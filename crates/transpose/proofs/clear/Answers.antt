@@ -20,9 +20,8 @@ power-m-requires c = c.requires.1
 
 pub loop-i-init : goal.loop-i-init
 loop-i-init c =
-    let s = c in
-    let a = s.args in
-    (omega arith, omega (arith, s.requires.2, c.power-m.ensures), only_start a.l a.t.now s.requires.3, clear_start a.l a.n a.t.now)
+    let a = c.args in
+    (omega arith, omega (arith, c.requires.2, c.power-m.ensures), only_start a.l a.t.now c.requires.3, clear_start a.l a.n a.t.now)
 
 pub store-requires : goal.store-requires
 store-requires c = omega (arith, inside (goal.at.store-requires c).After-power-m)
@@ -35,18 +34,14 @@ loop-i-smaller c = omega arith
 
 pub loop-i-preserved : goal.loop-i-preserved
 loop-i-preserved c =
-    let g = c in
-    let v = g.loop-i in
-    let z = g in
-    let s = z in
-    let a = s.args in
-    let C = clear_step a.l a.n v.i (mask z.none-none.result) a.t.now v.t c.store.new.t s.requires.0 (omega (arith, inside (goal.at.overflow_add-i g).After-power-m)) v.invariant.0 z.none-none.ensures c.store.ensures (v.invariant.2, v.invariant.3) in
+    let v = c.loop-i in
+    let a = c.args in
+    let C = clear_step a.l a.n v.i (mask c.none-none.result) a.t.now v.t c.store.new.t c.requires.0 (omega (arith, inside (goal.at.overflow_add-i c).After-power-m)) v.invariant.0 c.none-none.ensures c.store.ensures (v.invariant.2, v.invariant.3) in
     (omega arith, omega arith, C.0, C.1)
 
 pub returns : goal.returns
 returns c =
     let v = c.loop-i in
-    let p = c in
-    let a = p.args in
-    let e : v.i ≡ 2 ^ a.w = omega (arith, p.power-m.ensures) in
+    let a = c.args in
+    let e : v.i ≡ 2 ^ a.w = omega (arith, c.power-m.ensures) in
     (v.invariant.2, rw e at v.invariant.3)

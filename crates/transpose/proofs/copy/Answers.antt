@@ -9,8 +9,7 @@ loop-l-init c = (omega arith, copied_start c.args.n c.args.t.now c.args.c.now c.
 
 pub copy_rows-requires : goal.copy_rows-requires
 copy_rows-requires c =
-    let g = c in
-    (omega arith, g.requires.1, g.loop-l.invariant.1.size)
+    (omega arith, c.requires.1, c.loop-l.invariant.1.size)
 
 pub overflow_add-l : goal.overflow_add-l
 overflow_add-l c = omega arith
@@ -20,10 +19,8 @@ loop-l-smaller c = omega arith
 
 pub loop-l-preserved : goal.loop-l-preserved
 loop-l-preserved c =
-    let g = c in
-    let s = g in
-    let v = g.loop-l in
-    (omega arith, copied_step v.l s.args.n s.args.t.now v.c c.copy_rows.new.c s.requires.1 c.copy_rows.ensures v.invariant.1)
+    let v = c.loop-l in
+    (omega arith, copied_step v.l c.args.n c.args.t.now v.c c.copy_rows.new.c c.requires.1 c.copy_rows.ensures v.invariant.1)
 
 pub returns : goal.returns
 returns c =

@@ -24,12 +24,9 @@ loop-i-smaller c = omega arith
 
 pub loop-i-preserved : goal.loop-i-preserved
 loop-i-preserved c =
-    let k = c in
-    let g = k in
-    let s = g in
-    let a = s.args in
-    let v = g.loop-i in
-    let C = copy_step a.l v.i (mask k.load-x.result) a.t.now a.c.now v.c c.store.new.t s.requires.0 (omega arith) k.load-x.ensures c.store.ensures (v.invariant.1, v.invariant.2) in
+    let a = c.args in
+    let v = c.loop-i in
+    let C = copy_step a.l v.i (mask c.load-x.result) a.t.now a.c.now v.c c.store.new.t c.requires.0 (omega arith) c.load-x.ensures c.store.ensures (v.invariant.1, v.invariant.2) in
     (omega arith, C.0, C.1)
 
 pub returns : goal.returns

@@ -63,38 +63,32 @@ power-s-requires c = omega arith
 
 pub loop-r-init : goal.loop-r-init
 loop-r-init c =
-    let s = c in
-    let a = s.args in
-    (zero-le, only_start a.l a.t.now s.requires.3, stage_start a.l a.b 0 (2 ^ a.w) a.t.now, (0, sym (zero-mul (2 ^ suc a.b))))
+    let a = c.args in
+    (zero-le, only_start a.l a.t.now c.requires.3, stage_start a.l a.b 0 (2 ^ a.w) a.t.now, (0, sym (zero-mul (2 ^ suc a.b))))
 
 pub swap_run-requires : goal.swap_run-requires
 swap_run-requires c =
-    let i = c in
-    let m = i in
-    let s = m in
-    (s.requires.0, omega arith, m.stripes-m.ensures, omega (arith, room (goal.at.swap_run-requires i).In-loop-r, limit (goal.at.swap_run-requires i).In-loop-r), clear (goal.at.swap_run-requires i).In-loop-r, i.loop-r.invariant.1.size)
+    (c.requires.0, omega arith, c.stripes-m.ensures, omega (arith, room (goal.at.swap_run-requires c).In-loop-r, limit (goal.at.swap_run-requires c).In-loop-r), clear (goal.at.swap_run-requires c).In-loop-r, c.loop-r.invariant.1.size)
 
 pub overflow_mul-r : goal.overflow_mul-r
-overflow_mul-r c = let i = c in omega (arith, twice (goal.at.overflow_mul-r i).In-loop-r, room (goal.at.overflow_mul-r i).In-loop-r, limit (goal.at.overflow_mul-r i).In-loop-r)
+overflow_mul-r c = omega (arith, twice (goal.at.overflow_mul-r c).In-loop-r, room (goal.at.overflow_mul-r c).In-loop-r, limit (goal.at.overflow_mul-r c).In-loop-r)
 
 pub overflow_add-r : goal.overflow_add-r
-overflow_add-r c = let i = c in omega (arith, twice (goal.at.overflow_mul-r i).In-loop-r, room (goal.at.overflow_mul-r i).In-loop-r, limit (goal.at.overflow_mul-r i).In-loop-r)
+overflow_add-r c = omega (arith, twice (goal.at.overflow_mul-r c).In-loop-r, room (goal.at.overflow_mul-r c).In-loop-r, limit (goal.at.overflow_mul-r c).In-loop-r)
 
 pub loop-r-smaller : goal.loop-r-smaller
-loop-r-smaller c = let i = c in omega (arith, twice (goal.at.overflow_mul-r i).In-loop-r, room (goal.at.overflow_mul-r i).In-loop-r, inside (goal.at.overflow_mul-r i).In-loop-r, pow_pos (b (goal.at.overflow_mul-r i).In-loop-r))
+loop-r-smaller c = omega (arith, twice (goal.at.overflow_mul-r c).In-loop-r, room (goal.at.overflow_mul-r c).In-loop-r, inside (goal.at.overflow_mul-r c).In-loop-r, pow_pos (b (goal.at.overflow_mul-r c).In-loop-r))
 
 pub loop-r-preserved : goal.loop-r-preserved
 loop-r-preserved c =
-    let i = c in
-    let v = i.loop-r in
-    let s = i in
-    let a = s.args in
+    let v = c.loop-r in
+    let a = c.args in
     let T = row a.t.now a.l in (
-      omega (arith, twice (goal.at.overflow_mul-r i).In-loop-r, room (goal.at.overflow_mul-r i).In-loop-r),
+      omega (arith, twice (goal.at.overflow_mul-r c).In-loop-r, room (goal.at.overflow_mul-r c).In-loop-r),
       only_then a.l a.t.now v.t c.swap_run.new.t v.invariant.1 c.swap_run.ensures.0,
-      subst (λ x. HasRows a.l (2 ^ a.w) (staged a.b 0 x T) c.swap_run.new.t) (sym (twice (goal.at.overflow_mul-r i).In-loop-r))
-          (stage_run a.l a.b a.w v.r (v.r + 2 ^ a.b) (v.r + 2 ^ a.b + 2 ^ a.b) T v.t c.swap_run.new.t s.requires.1 s.requires.2 (omega arith) (omega arith) (set_after (goal.at.overflow_mul-r i).In-loop-r) c.swap_run.ensures.1 v.invariant.2),
-      (suc (h (goal.at.overflow_mul-r i).In-loop-r), twice (goal.at.overflow_mul-r i).In-loop-r ∙ next (goal.at.overflow_mul-r i).In-loop-r),
+      subst (λ x. HasRows a.l (2 ^ a.w) (staged a.b 0 x T) c.swap_run.new.t) (sym (twice (goal.at.overflow_mul-r c).In-loop-r))
+          (stage_run a.l a.b a.w v.r (v.r + 2 ^ a.b) (v.r + 2 ^ a.b + 2 ^ a.b) T v.t c.swap_run.new.t c.requires.1 c.requires.2 (omega arith) (omega arith) (set_after (goal.at.overflow_mul-r c).In-loop-r) c.swap_run.ensures.1 v.invariant.2),
+      (suc (h (goal.at.overflow_mul-r c).In-loop-r), twice (goal.at.overflow_mul-r c).In-loop-r ∙ next (goal.at.overflow_mul-r c).In-loop-r),
     )
 
 pub returns : goal.returns

@@ -21,11 +21,10 @@ there c =
     ap (λ s. a.r + s) c.power-s.ensures ∙ add_comm a.r (2 ^ a.b) ∙ sym (flip_add a.b a.r c.requires.4)
 
 near : (c : After-power-s) → (c.power-s.result < width) × (c.args.r + c.power-s.result < width)
-near c =
-    let s = c in (
-      subst (λ n. n < width) (sym c.power-s.ensures) (pow-lt {i = s.args.b} {j = levels} s.requires.1),
-      subst (λ n. n < width) (sym (there c)) (flip_lt levels s.args.b s.args.r s.requires.1 s.requires.3),
-    )
+near c = (
+  subst (λ n. n < width) (sym c.power-s.ensures) (pow-lt {i = c.args.b} {j = levels} c.requires.1),
+  subst (λ n. n < width) (sym (there c)) (flip_lt levels c.args.b c.args.r c.requires.1 c.requires.3),
+)
 
 -- What trades, and what it is moved up to.
 module _ (c : After-and-d) where
@@ -62,37 +61,24 @@ pub lowered-v-requires : goal.lowered-v-requires
 lowered-v-requires c = (near (goal.at.lowered-v-requires c).After-power-s).0
 
 pub moved-u-requires : goal.moved-u-requires
-moved-u-requires c =
-    let q = c in
-    let p = q in
-    let u = p in (
-      (near (goal.at.moved-u-requires u).After-power-s).0,
-      subst (λ n. n < 2 ^ width) (sym (moves c)) (difference_fits u.args.b (mask p.load-p.result) (mask q.load-q.result) u.requires.1),
-    )
+moved-u-requires c = (
+  (near (goal.at.moved-u-requires c).After-power-s).0,
+  subst (λ n. n < 2 ^ width) (sym (moves c)) (difference_fits c.args.b (mask c.load-p.result) (mask c.load-q.result) c.requires.1),
+)
 
 pub overflow_add-r-2 : goal.overflow_add-r-2
 overflow_add-r-2 c = omega (arith, near (goal.at.overflow_add-r-2 c).After-power-s)
 
 pub store-requires-2 : goal.store-requires-2
 store-requires-2 c =
-    let u = c in
-    (u.requires.0, (near (goal.at.overflow_add-r-2 u).After-power-s).1)
+    (c.requires.0, (near (goal.at.overflow_add-r-2 c).After-power-s).1)
 
 pub returns : goal.returns
 returns c =
-    let s₁ = c in
-    let y = s₁ in
-    let x = y in
-    let m = x in
-    let d = m in
-    let q = d in
-    let p = q in
-    let u = p in
-    let s = u in
-    let a = s.args in
-    swap_stored a.l a.b a.r a.t.now s.requires.1 s.requires.0 s.requires.3 s.requires.4 s.requires.5
-    (mask p.load-p.result) (mask q.load-q.result) (mask x.xor-x.result) (mask y.xor-y.result) s₁.store.new.t c.store-2.new.t
-    p.load-p.ensures (q.load-q.ensures ∙ ap (at a.t.now a.l) (there (goal.at.returns u).After-power-s))
-    (x.xor-x.ensures ∙ ap (bit_xor (mask p.load-p.result)) (m.moved-u.ensures ∙ moves (goal.at.returns d).After-and-d))
-    (y.xor-y.ensures ∙ ap (bit_xor (mask q.load-q.result)) (trades (goal.at.returns d).After-and-d))
-    s₁.store.ensures (c.store-2.ensures ∙ ap (λ i. stored s₁.store.new.t a.l i (mask y.xor-y.result)) (there (goal.at.returns u).After-power-s))
+    let a = c.args in
+    swap_stored a.l a.b a.r a.t.now c.requires.1 c.requires.0 c.requires.3 c.requires.4 c.requires.5
+    (mask c.load-p.result) (mask c.load-q.result) (mask c.xor-x.result) (mask c.xor-y.result) c.store.new.t c.store-2.new.t
+    c.load-p.ensures (c.load-q.ensures ∙ ap (at a.t.now a.l) (there (goal.at.returns c).After-power-s))
+    (c.xor-x.ensures ∙ ap (bit_xor (mask c.load-p.result)) (c.moved-u.ensures ∙ moves (goal.at.returns c).After-and-d))
+    (c.xor-y.ensures ∙ ap (bit_xor (mask c.load-q.result)) (trades (goal.at.returns c).After-and-d))
+    c.store.ensures (c.store-2.ensures ∙ ap (λ i. stored c.store.new.t a.l i (mask c.xor-y.result)) (there (goal.at.returns c).After-power-s))

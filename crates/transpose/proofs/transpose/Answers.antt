@@ -11,27 +11,22 @@ level-w-requires c = c.requires.1
 
 pub loop-l-init : goal.loop-l-init
 loop-l-init c =
-    let s = c in
-    (omega arith, turning_start s.args.n s.args.t.now s.requires.3)
+    (omega arith, turning_start c.args.n c.args.t.now c.requires.3)
 
 pub clear-requires : goal.clear-requires
 clear-requires c =
-    let g = c in
-    let w = g.level-w.ensures in
-    (omega arith, w.0, w.1, g.loop-l.invariant.1.done.size)
+    let w = c.level-w.ensures in
+    (omega arith, w.0, w.1, c.loop-l.invariant.1.done.size)
 
 pub turn-requires : goal.turn-requires
 turn-requires c =
-    let k = c in
-    let g = k in
-    let s = g in
-    let a = s.args in
-    let w = g.level-w in
-    let v = g.loop-l in (
+    let a = c.args in
+    let w = c.level-w in
+    let v = c.loop-l in (
       omega arith,
       w.ensures.0,
-      cleared_lt v.l a.n (2 ^ w.result) v.t k.clear.new.t w.ensures.1 (turning_low a.a v.l a.n a.t.now v.t (omega arith) s.requires.1 s.requires.2 v.invariant.1) k.clear.ensures.1,
-      k.clear.ensures.0.size,
+      cleared_lt v.l a.n (2 ^ w.result) v.t c.clear.new.t w.ensures.1 (turning_low a.a v.l a.n a.t.now v.t (omega arith) c.requires.1 c.requires.2 v.invariant.1) c.clear.ensures.1,
+      c.clear.ensures.0.size,
     )
 
 pub overflow_add-l : goal.overflow_add-l
@@ -42,13 +37,10 @@ loop-l-smaller c = omega arith
 
 pub loop-l-preserved : goal.loop-l-preserved
 loop-l-preserved c =
-    let k = c in
-    let g = k in
-    let s = g in
-    let a = s.args in
-    let w = g.level-w in
-    let v = g.loop-l in
-    (omega arith, turning_step v.l a.n w.result a.t.now v.t k.clear.new.t c.turn.new.t s.requires.1 w.ensures.0 w.ensures.1 k.clear.ensures c.turn.ensures v.invariant.1)
+    let a = c.args in
+    let w = c.level-w in
+    let v = c.loop-l in
+    (omega arith, turning_step v.l a.n w.result a.t.now v.t c.clear.new.t c.turn.new.t c.requires.1 w.ensures.0 w.ensures.1 c.clear.ensures c.turn.ensures v.invariant.1)
 
 pub returns : goal.returns
 returns c =

@@ -7,13 +7,11 @@ copy-requires c = (c.requires.0, c.requires.1, c.requires.3)
 
 pub transpose-requires : goal.transpose-requires
 transpose-requires c =
-    let s = c in
-    let a = s.args in
+    let a = c.args in
     let e = c.copy in
-    (s.requires.0, s.requires.1, copied_low a.a a.n a.t.now e.new.c e.ensures s.requires.2, e.ensures.size)
+    (c.requires.0, c.requires.1, copied_low a.a a.n a.t.now e.new.c e.ensures c.requires.2, e.ensures.size)
 
 pub returns : goal.returns
 returns c =
-    let k = c in
-    let a = k.args in
-    copied_transposed a.a a.n a.t.now k.copy.new.c c.transpose.new.t k.copy.ensures c.transpose.ensures
+    let a = c.args in
+    copied_transposed a.a a.n a.t.now c.copy.new.c c.transpose.new.t c.copy.ensures c.transpose.ensures

@@ -18,31 +18,26 @@ overflow_sub-b c = omega arith
 
 pub exchange-requires : goal.exchange-requires
 exchange-requires c =
-    let g = c in
-    let s = g in
-    (s.requires.0, s.requires.1, omega (arith, g.loop-b.invariant.0, c.loop-b-test.true), g.loop-b.invariant.1.size)
+    (c.requires.0, c.requires.1, omega (arith, c.loop-b.invariant.0, c.loop-b-test.true), c.loop-b.invariant.1.size)
 
 pub loop-b-smaller : goal.loop-b-smaller
 loop-b-smaller c = omega arith
 
 pub loop-b-preserved : goal.loop-b-preserved
 loop-b-preserved c =
-    let g = c in
-    let s = g in
-    let a = s.args in
-    let v = g.loop-b in
+    let a = c.args in
+    let v = c.loop-b in
     let A = padded (2 ^ a.w) (row a.t.now a.l) in
     let e : suc (v.b - 1) ≡ v.b = omega arith in (
       omega arith,
       only_then a.l a.t.now v.t c.exchange.new.t v.invariant.1 c.exchange.ensures.0,
-      turn_step a.l a.w (v.b - 1) A v.t c.exchange.new.t s.requires.1 (omega (arith, v.invariant.0)) c.exchange.ensures.1
+      turn_step a.l a.w (v.b - 1) A v.t c.exchange.new.t c.requires.1 (omega (arith, v.invariant.0)) c.exchange.ensures.1
           (subst (λ b. Turned (2 ^ a.w) b A (row v.t a.l)) (sym e) v.invariant.2),
     )
 
 pub returns : goal.returns
 returns c =
     let v = c.loop-b in
-    let s = c in
-    let a = s.args in
+    let a = c.args in
     let e : v.b ≡ 0 = omega arith in
-    (v.invariant.1, turn_end a.l a.w a.t.now v.t s.requires.1 (rw e at v.invariant.2))
+    (v.invariant.1, turn_end a.l a.w a.t.now v.t c.requires.1 (rw e at v.invariant.2))

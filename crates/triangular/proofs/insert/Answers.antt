@@ -31,8 +31,7 @@ has-requires c = c.highest-q.ensures.0
 place : (c : After-highest-q) → c.highest-q.result < length c.loop-x.e
 place c =
     let v = c.loop-x in
-    let s = c in
-    rw v.invariant.0 (top_below (length s.args.e.now) c.highest-q.result (mask v.x) (c.highest-q.ensures.1, c.highest-q.ensures.2) (lt_of_le_of_lt v.invariant.1 s.requires.1))
+    rw v.invariant.0 (top_below (length c.args.e.now) c.highest-q.result (mask v.x) (c.highest-q.ensures.1, c.highest-q.ensures.2) (lt_of_le_of_lt v.invariant.1 c.requires.1))
 
 pub put-requires : goal.put-requires
 put-requires c = place (goal.at.put-requires c).After-highest-q
@@ -45,13 +44,10 @@ or-requires c = tt
 
 pub returns-then-not-has : goal.returns-then-not-has
 returns-then-not-has c =
-    let t = c in
-    let h = t in
-    let v = h.loop-x in
-    let s = h in
-    let q = h.highest-q.result in
+    let v = c.loop-x in
+    let q = c.highest-q.result in
     rw (c.or.ensures, c.unit.ensures, c.put.ensures, v.invariant.0)
-    (inserted_new (mask s.args.p) s.args.e.now (mask v.x) q (rw v.invariant.0 at (place (goal.at.returns-then-not-has h).After-highest-q)) (mask s.args.y) s.requires.0 (h.highest-q.ensures.1, h.highest-q.ensures.2) (sym t.has.ensures ∙ t.if-not-has.true) v.invariant.2)
+    (inserted_new (mask c.args.p) c.args.e.now (mask v.x) q (rw v.invariant.0 at (place (goal.at.returns-then-not-has c).After-highest-q)) (mask c.args.y) c.requires.0 (c.highest-q.ensures.1, c.highest-q.ensures.2) (sym c.has.ensures ∙ c.if-not-has.true) v.invariant.2)
 
 pivot : (c : Else-not-has) → bit_of (mask c.args.p) c.highest-q.result ≡ true
 pivot c = sym c.has.ensures ∙ c.if-not-has.false
@@ -64,29 +60,22 @@ xor-x-requires c = tt
 
 pub loop-x-smaller : goal.loop-x-smaller
 loop-x-smaller c =
-    let b = c in
-    let h = b in
-    let v = h.loop-x in
-    let s = h in
-    let q = h.highest-q.result in
-    let r = s.requires.0 q (pivot (goal.at.loop-x-smaller b).Else-not-has) in
+    let v = c.loop-x in
+    let q = c.highest-q.result in
+    let r = c.requires.0 q (pivot (goal.at.loop-x-smaller c).Else-not-has) in
     rw (c.xor-x.ensures, c.get.ensures, v.invariant.0)
-    (lt_of_lt_of_le (top_xor q (mask v.x) (get_or s.args.e.now q 0) (h.highest-q.ensures.1, h.highest-q.ensures.2) (r.1, r.2)) h.highest-q.ensures.1)
+    (lt_of_lt_of_le (top_xor q (mask v.x) (get_or c.args.e.now q 0) (c.highest-q.ensures.1, c.highest-q.ensures.2) (r.1, r.2)) c.highest-q.ensures.1)
 
 pub loop-x-preserved : goal.loop-x-preserved
 loop-x-preserved c =
-    let b = c in
-    let h = b in
-    let v = h.loop-x in
-    let s = h in (
+    let v = c.loop-x in (
       v.invariant.0,
       le_trans (le_of_lt (loop-x-smaller c)) v.invariant.1,
-      rw (c.xor-x.ensures, c.get.ensures, v.invariant.0) (remainder_step (mask s.args.p) s.args.e.now (mask s.args.y) (mask v.x) h.highest-q.result (pivot (goal.at.loop-x-smaller b).Else-not-has) v.invariant.2),
+      rw (c.xor-x.ensures, c.get.ensures, v.invariant.0) (remainder_step (mask c.args.p) c.args.e.now (mask c.args.y) (mask v.x) c.highest-q.result (pivot (goal.at.loop-x-smaller c).Else-not-has) v.invariant.2),
     )
 
 pub returns : goal.returns
 returns c =
     let v = c.loop-x in
-    let s = c in
     let z = eqb-true (mask v.x) 0 (sym c.is_none.ensures ∙ c.loop-x-test.false) in
-    rw v.invariant.0 (inserted_old (mask s.args.p) s.args.e.now (mask s.args.y) (mask v.x) z s.requires.0 v.invariant.2)
+    rw v.invariant.0 (inserted_old (mask c.args.p) c.args.e.now (mask c.args.y) (mask v.x) z c.requires.0 v.invariant.2)

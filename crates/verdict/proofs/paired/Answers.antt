@@ -1,6 +1,6 @@
 -- `paired`: the fields of the second record are moved up by the states of the first.
 use mathlib.Core.Path.{ap₂, ◌∙◌}
-use Prim.Native.Nat.{◌+◌, ◌*◌, ◌^◌, ◌≤◌}
+use Prim.Native.Nat.{◌*◌, ◌^◌, ◌≤◌}
 use native.Mathlib.Omega.{arith}
 use lib.Bits.{bit_xor}
 use lib.ListN.{length}
@@ -8,7 +8,6 @@ use Rattle.rows.proofs.BesideLaws.{moved_fits}
 use Rattle.record.specs.Record.{states_of}
 use Rattle.record.proofs.Refusals.{good_check}
 use Rattle.hunt.proofs.BothLaws.{field_below}
-use borrow.Author.Rules.{rules}
 use Rattle.verdict.proofs.paired.Goals.{Start}
 use Rattle.verdict.proofs.paired.Goals as goal
 
@@ -30,20 +29,18 @@ field_at-requires c = omega (arith, (front (goal.at.field_at-requires c).Start).
 
 pub moved-i-requires : goal.moved-i-requires
 moved-i-requires c =
-    let s = c in
-    let f = front (goal.at.moved-i-requires s).Start in
+    let f = front (goal.at.moved-i-requires c).Start in
     let e = c.size-n.ensures.0 in
-    (omega (arith, e, f.2), rw (e, c.field_at.ensures) (moved_fits (states_of s.args.first.now) (states_of s.args.second.now) _ (field_below s.args.second.now s.requires.1).0 (omega (arith, f.2, f.3))))
+    (omega (arith, e, f.2), rw (e, c.field_at.ensures) (moved_fits (states_of c.args.first.now) (states_of c.args.second.now) _ (field_below c.args.second.now c.requires.1).0 (omega (arith, f.2, f.3))))
 
 pub field_at-requires-2 : goal.field_at-requires-2
 field_at-requires-2 c = omega (arith, (front (goal.at.field_at-requires-2 c).Start).1)
 
 pub moved-f-requires : goal.moved-f-requires
 moved-f-requires c =
-    let s = c in
-    let f = front (goal.at.moved-f-requires s).Start in
+    let f = front (goal.at.moved-f-requires c).Start in
     let e = c.size-n.ensures.0 in
-    (omega (arith, e, f.2), rw (e, c.field_at-2.ensures) (moved_fits (states_of s.args.first.now) (states_of s.args.second.now) _ (field_below s.args.second.now s.requires.1).1 (omega (arith, f.2, f.3))))
+    (omega (arith, e, f.2), rw (e, c.field_at-2.ensures) (moved_fits (states_of c.args.first.now) (states_of c.args.second.now) _ (field_below c.args.second.now c.requires.1).1 (omega (arith, f.2, f.3))))
 
 pub field_at-requires-3 : goal.field_at-requires-3
 field_at-requires-3 c = omega (arith, (front (goal.at.field_at-requires-3 c).Start).0)
@@ -61,12 +58,11 @@ bounds-first-6 c = omega (arith, (front (goal.at.bounds-first-6 c).Start).0)
 
 pub returns : goal.returns
 returns c =
-    let s = c in
     let e = c.size-n.ensures.0 in
     record {
-      first = s.requires.0;
-      second = s.requires.1;
-      same = s.requires.2;
+      first = c.requires.0;
+      second = c.requires.1;
+      same = c.requires.2;
       states = ap₂ ◌+◌ e c.size-k.ensures.0;
       letters = c.size.ensures.0;
       initial = c.xor-initial.ensures ∙ ap₂ bit_xor c.field_at-3.ensures (c.moved-i.ensures ∙ ap₂ (λ x n. x * 2 ^ n) c.field_at.ensures e);

@@ -3,7 +3,6 @@ use mathlib.Core.Path.{sym, ap, ◌∙◌}
 use native.Mathlib.Omega.{arith}
 use Rattle.script.specs.Script.{after_part}
 use Rattle.script.proofs.Parts.{whole_stands}
-use borrow.Author.Rules.{rules}
 use Rattle.walk.proofs.key_end.Goals as goal
 
 pub returns-in-Whole : goal.returns-in-Whole

@@ -5,7 +5,6 @@ use Rattle.script.specs.Script.{part_at}
 use Rattle.script.specs.declared.Part.TheVariants.{Whole}
 use Rattle.script.proofs.Parts.{Stands, whole_stands}
 use Rattle.walk.proofs.Places.{past_stops, past_answer, past_key, past_bad_key}
-use borrow.Author.Rules.{rules}
 use Rattle.walk.proofs.past.Goals.{In-Whole}
 use Rattle.walk.proofs.past.Goals as goal
 

@@ -3,7 +3,6 @@ use mathlib.Core.Path.{◌≡◌, sym, ap, ◌∙◌}
 use native.Mathlib.Omega.{arith}
 use Rattle.walk.specs.Walk.{past_of, place_of}
 use Rattle.walk.proofs.Reader.{onward, key_only, key_passed, place_first, place_second, place_after}
-use borrow.Author.Rules.{rules}
 use Rattle.walk.proofs.place.Goals.{After-part_of_index}
 use Rattle.walk.proofs.place.Goals as goal
 
@@ -27,15 +26,12 @@ returns-then-first-script c =
 
 pub returns-in-Whole : goal.returns-in-Whole
 returns-in-Whole c =
-    let b = c in
-    ap (onward b.args.script.now) (sym c.in-Whole.is) ∙ read (goal.at.returns-in-Whole b).After-part_of_index
+    ap (onward c.args.script.now) (sym c.in-Whole.is) ∙ read (goal.at.returns-in-Whole c).After-part_of_index
 
 pub returns-in-Refused : goal.returns-in-Refused
 returns-in-Refused c =
-    let b = c in
-    ap (onward b.args.script.now) (sym c.in-Refused.is) ∙ read (goal.at.returns-in-Refused b).After-part_of_index
+    ap (onward c.args.script.now) (sym c.in-Refused.is) ∙ read (goal.at.returns-in-Refused c).After-part_of_index
 
 pub returns-in-End : goal.returns-in-End
 returns-in-End c =
-    let b = c in
-    ap (onward b.args.script.now) (sym c.in-End.is) ∙ read (goal.at.returns-in-End b).After-part_of_index
+    ap (onward c.args.script.now) (sym c.in-End.is) ∙ read (goal.at.returns-in-End c).After-part_of_index
