@@ -1,4 +1,4 @@
--- What a reader must believe: Xor to Fields, and of Row `times`, by which `starOf` is defined. Row, Reduction and Tree are for the contracts
+-- What a reader must believe: Xor to Fields, and of Row `times`, by which `star_of` is defined. Row, Reduction and Tree are for the contracts
 -- of inner functions.
 pub mod Xor
 pub mod Automaton

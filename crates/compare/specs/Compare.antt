@@ -1,5 +1,5 @@
 -- The comparison service (01: compare two records; rows 1 to 7 of the first, of the second, 8, then 12 only when the languages differ). The
--- service's contract puts its records in as they are meant (`asMeant`, operands/specs/Meant).
+-- service's contract puts its records in as they are meant (`as_meant`, operands/specs/Meant).
 --   difference_of bs cs         the first word that just one accepts, if there is one
 --   compare_outcome bs cs room  what is written, or the refusal: the word, or nothing where the languages are the same
 --   compared_as                 the answer: Same, Differs with the word's length and the side that accepts it, or Refused

@@ -1,4 +1,4 @@
--- The meet service (01: meet; rows 1 to 8, then 10, 11 and 12). Its contract puts the records in as they are meant (`asMeant`,
+-- The meet service (01: meet; rows 1 to 8, then 10, 11 and 12). Its contract puts the records in as they are meant (`as_meant`,
 -- operands/specs/Meant).
 --   max_product                 the largest product of the dimensions that is taken
 --   crossing d rest             row 10: a product over that is refused, else the rest decides

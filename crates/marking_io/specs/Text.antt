@@ -12,7 +12,7 @@ use Rattle.marking.specs.Marking.{max_script, mark_line}
 unfoldable pub lines_below : List ℕ → ℕ → List ℕ
 lines_below s k = join_below k (mark_line s)
 
--- There is one for each script (`text-unique` in proofs).
+-- There is one for each script (`text_unique` in proofs).
 pub record IsText (s t : List ℕ) : Type 0 where
   pub count : ℕ
   pub bytes : t ≡ lines_below s count

@@ -64,7 +64,7 @@ pub extern "C" fn nxa_minimal(record: &[u8], out: &mut [u8]) -> Reply
 }
 
 // Compares two records and writes the first word that just one accepts. Of two records, here and below, a second one of 0 bytes is a blank,
-// the machine with no states over the first one's letters (`asMeant`). `claims`, for two well-formed records over the same letters: number 0
+// the machine with no states over the first one's letters (`as_meant`). `claims`, for two well-formed records over the same letters: number 0
 // and value 0 come exactly when every word over the letters, of any length, is accepted by both or by neither. Otherwise, where number is
 // 0, the first `length` bytes of the buffer are the first such word in shortlex order, the record that `value` names accepts it, and it has
 // at most 63 letters and fewer than the two dimensions added. Refusal 12 comes exactly where the languages differ and the buffer is shorter

@@ -1,6 +1,6 @@
 -- Sum, complement and mirror (01: every language operation writes the minimal record of its result; rows 1 to 8, then 11, then 12), and the
 -- product (02, Note 2: chaining; the same rows). The field's word for the product of languages is concatenation (automata/specs/Cuts). The
--- contracts of sum and product put their records in as they are meant (`asMeant`, operands/specs/Meant).
+-- contracts of sum and product put their records in as they are meant (`as_meant`, operands/specs/Meant).
 --   sum_outcome bs cs room       what each service does with a buffer of so many bytes
 --   product_outcome bs cs room
 --   binary_outcome k bs cs room  the operation k on two records: sum or product

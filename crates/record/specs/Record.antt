@@ -128,7 +128,7 @@ abbrev pub record_accepts : List ℕ → Language
 record_accepts bs = restriction (letters_of bs) (language_of bs)
 
 -- Over more letters than the record has: a letter that it lacks leads nowhere (02, Note 5). That this machine accepts the words of
--- `recordAccepts`, and no other, is a theorem (`accepts-widened`, automata/proofs/Letters).
+-- `record_accepts`, and no other, is a theorem (`accepts_widened`, automata/proofs/Letters).
 abbrev pub machine_of : List ℕ → Automaton
 machine_of bs = widened (letters_of bs) (automaton_of bs)
 
