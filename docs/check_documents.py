@@ -15,7 +15,7 @@ import tempfile
 
 ROOT = pathlib.Path(__file__).resolve().parent.parent
 DOCUMENTS = ["README.md", "host/README.md", "tests/README.md", "bench/README.md"] + [f"docs/{name}.md" for name in ("CLAIMS", "DECISIONS", "DESIGN", "MARKING", "PROVING", "TRUST")]
-GATE = {"bash .ci/run", "rt staticlib nxa"}  # the gate itself, and what it has just done
+GATE = {"bash .ci/run", "(cd crates/nxa && rt lib)"}  # the gate itself, and what it has just done
 
 
 def blocks(text):

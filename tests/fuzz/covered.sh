@@ -1,15 +1,14 @@
 #!/bin/sh
-# covered.sh FOLDER: the archive once more, for the fuzzer. The module that `rt staticlib` hands to its compiler is compiled a second time,
-# with the coverage that guides libFuzzer and a check of every address, and put into FOLDER/libnxa.a. The archive itself comes out as ever.
+# covered.sh FOLDER: the archive once more, for the fuzzer. The module that `rt lib` hands to its compiler is compiled a second time, with
+# the coverage that guides libFuzzer and a check of every address, and put into FOLDER/libnxa.a. The archive itself comes out as ever.
 #
-# rt is shown a kit that is made of links to the real one, but for its clang.
+# rt goes by the kit that it lies in, so it runs here in one made of links to the real one, but for rt itself and its clang.
 set -eu
 mkdir -p "$1"
 folder=$(cd "$1" && pwd -P)
-cd "$(dirname "$0")/../.."
-kit=$(dirname "$(dirname "$(rt doc)")")
-own=on/$(uname -m)
-clang=$kit/$own/toolchain/bin/clang
+cd "$(dirname "$0")/../../crates/nxa"
+kit=$(dirname "$(rt doc)")
+clang=$kit/toolchain/bin/clang
 flags='-fsanitize=address -mllvm -force-attribute=sanitize_address -fsanitize-coverage=inline-8bit-counters,pc-table,trace-cmp'
 
 # links FROM TO EXCEPT: a link in TO for each entry of FROM but one.
@@ -21,15 +20,16 @@ links() {
 }
 
 rm -rf "$folder/kit" "$folder/nxa.o" "$folder/libnxa.a"
-links "$kit" "$folder/kit" on
-links "$kit/$own" "$folder/kit/$own" toolchain
-links "$kit/$own/toolchain" "$folder/kit/$own/toolchain" bin
-links "$kit/$own/toolchain/bin" "$folder/kit/$own/toolchain/bin" clang
-cat >"$folder/kit/$own/toolchain/bin/clang" <<END
+links "$kit" "$folder/kit" toolchain
+rm "$folder/kit/bin"
+cp -R "$kit/bin" "$folder/kit/bin"
+links "$kit/toolchain" "$folder/kit/toolchain" bin
+links "$kit/toolchain/bin" "$folder/kit/toolchain/bin" clang
+cat >"$folder/kit/toolchain/bin/clang" <<END
 #!/bin/sh
 "$clang" "\$@" && exec "$clang" "\$@" $flags -o "$folder/nxa.o"
 END
-chmod +x "$folder/kit/$own/toolchain/bin/clang"
+chmod +x "$folder/kit/toolchain/bin/clang"
 
-RATTLE_HOME=$folder/kit rt staticlib nxa
+"$folder/kit/bin/rt" lib
 ar rcs "$folder/libnxa.a" "$folder/nxa.o"
