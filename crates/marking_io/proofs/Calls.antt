@@ -1,5 +1,5 @@
 -- How many bytes were moved, and which: what the calls gave is the front of what the reader had; how many bytes a buffer has.
-use Rattle.std.proofs.Common.{◌≡◌, ℕ, ◌+◌, ◌-◌, ◌≤◌, List, [], ◌++◌, None, Some, IfSome, Option, length, take, replicate, sym, ap, subst, ◌∙◌, append-nil, take_at, length-take-le, arith}
+use Rattle.std.proofs.Common.{◌≡◌, ℕ, ◌+◌, ◌-◌, ◌≤◌, List, ◌++◌, None, Some, IfSome, Option, length, take, replicate, sym, ap, subst, ◌∙◌, append-nil, take_at, length-take-le}
 use Rattle.std.specs.Io.KnownBytes.{Consumes, IsAtEnd}
 use Rattle.std.proofs.KnownBytes.{Consumes-trans}
 use Rattle.marking_io.specs.Calls.{Reads}

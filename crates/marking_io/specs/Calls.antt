@@ -11,7 +11,7 @@
 --   Prints p w w' t   what was put behind what the writer held, w, is the text t, and where it failed the front of it
 use Rattle.std.specs.Prelude.{◌≡◌, List, [], ℕ, ◌≤◌, ◌<◌, Option, IfSome, length, take}
 use Rattle.std.specs.Io.KnownBytes.{Keeps, Appends, Consumes, IsAtEnd}
-use Rattle.marking_io.specs.Text.{IsText, read_bytes}
+use Rattle.marking_io.specs.Text.{read_bytes}
 use Rattle.marking_io.specs.declared.Call.{Call}
 use Rattle.marking_io.specs.declared.Call.TheVariants.{Moved, Broken}
 use Rattle.marking_io.specs.declared.Input.{Input}

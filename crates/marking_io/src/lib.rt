@@ -13,6 +13,9 @@ ghost use Rattle.marking_io.specs.Text.{IsText, read_bytes, text_room};
 ghost use Rattle.marking_io.specs.Calls.{Within, Took, Received, script_in, Reads, Gave, Sent, Prints};
 ghost use Rattle.marking_io.specs.Program.{MarksRead, MarksFrom};
 
+#[cfg(test)]
+mod tests;
+
 use record::Written;
 use std::fmt::InlineText;
 use std::io;

@@ -1,5 +1,5 @@
 -- `print`: what a call took of the rest of the text stands behind what was printed of it.
-use Rattle.std.proofs.Common.{◌≡◌, ◌+◌, ◌≤◌, length, take, drop, sym, ap, subst, arith, take-add, length-drop}
+use Rattle.std.proofs.Common.{length, sym, ap, subst, arith, take-add, length-drop}
 use Rattle.std.specs.Io.KnownBytes.{Appends}
 use Rattle.std.proofs.KnownBytes.{Appends-trans}
 use borrow.Author.Rules.{part_to_end}

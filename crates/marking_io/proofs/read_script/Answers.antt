@@ -1,6 +1,6 @@
 -- `read_script`: each read puts its bytes behind those that were read, so that they are together the front of what the reader had. They are
 -- all of it where a read finds none left, and as many as are read at most where the buffer is full.
-use Rattle.std.proofs.Common.{◌≡◌, ◌+◌, ◌-◌, ◌≤◌, ◌<◌, length, take, subst, ◌∙◌, arith, length-take-le}
+use Rattle.std.proofs.Common.{◌≡◌, ◌+◌, ◌-◌, length, take, subst, arith, length-take-le}
 use Rattle.std.specs.Io.KnownBytes.{Consumes}
 use borrow.Rule.Slice.PartMut.{put_mid, mid_len, same_len_mid}
 use Rattle.marking_io.specs.Text.{read_bytes}

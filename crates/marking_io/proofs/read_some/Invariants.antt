@@ -1,5 +1,4 @@
 -- `read_some`: a call that a signal interrupts takes nothing from the reader.
-use Rattle.std.proofs.Common.{◌≡◌, length}
 use Rattle.std.specs.Io.KnownBytes.{Keeps}
 use Rattle.marking_io.proofs.read_some.Given as goal
 
