@@ -1,6 +1,6 @@
 // Marks the script on standard input: one line per record on standard output.
 #![tactic(auto)]
 
-fn main() {
-    marking_io::mark_input();
+fn main(rt: HostRuntime) {
+    marking_io::mark_input(&rt);
 }

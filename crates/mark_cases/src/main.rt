@@ -1,26 +1,31 @@
 // Marks each script that an argument names, and prints its name before its lines: several inputs in one run.
 #![tactic(auto)]
 
-use libc::STDOUT_FILENO;
+use std::env::Env;
+use std::fs::{File, Files};
+use std::io::{Error, ErrorKind};
 
-fn mark_file(index: usize) {
-    let mut path = io::buffer();
-    let n = os::arg(index, &mut path);
-    let descriptor = os::open_read(&path[..n]);
-    if descriptor < 0 {
-        os::fail(&path[..n]);
-        return;
+fn mark_file(rt: &(impl Files + Print + Eprint), path: &str) {
+    match File::open(rt, path) {
+        Ok(mut file) => {
+            if let Err(error) = println!(rt; "{path}:") {
+                marking_io::fail(rt, "mark: standard output", error);
+            }
+            marking_io::mark_from(rt, &mut file, path);
+        }
+        Err(error) => marking_io::fail(rt, path, error),
     }
-    io::write_all(STDOUT_FILENO, &path[..n]);
-    io::write_all(STDOUT_FILENO, b":\n");
-    marking_io::mark_from(descriptor, &path[..n]);
-    libc::close(descriptor);
 }
 
-fn main() {
+fn main(rt: HostRuntime) {
     for i in 1..65 {
-        if i < os::arg_count() {
-            mark_file(i);
+        let mut name = [0u8; 4096];
+        let Ok(n) = rt.arg(i, &mut name) else {
+            return;
+        };
+        match std::str::from_utf8(&name[..n]) {
+            Ok(path) => mark_file(&rt, path),
+            Err(_) => marking_io::fail(&rt, "argument", Error::from(ErrorKind::InvalidData)),
         }
     }
 }

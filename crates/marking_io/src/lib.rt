@@ -1,9 +1,8 @@
-// The marking program's part that reads a script and prints its text. No contract can say what is read or written. What is proved: the
-// buffer that is read into shows a script that is too long; what is to be printed is the text of the bytes that were read, no byte more or
-// less; each write call is handed all of it that is left; and printing ends without a failure only where none is left. Outside stand the
-// calls: that a read call puts the input's next bytes into what it is lent, and that a write call takes as many bytes as it says. That the
-// counts of the calls are added up, and that a failure is told, is read off `read_script`, `print`, `mark_into` and `mark_from`. What was read
-// is handed on as `read_script` gave it, and what is printed is the text of that.
+// The marking program's part that reads a script and prints its text, over any reader and any writer. What is proved: the script that is
+// marked is what the reader gave, up to its end or to one byte more than a script may have, so that a script that is too long is seen to be
+// so; what is printed is the text of that script, once, no byte more or less; each write call is handed all of it that is left; and printing
+// ends without a failure only where none is left. Outside stand the calls of the system: that reading the standard input or a file gives the
+// input's next bytes, and that a write call takes as many bytes as it says. That a failure is told is read off `mark_from`.
 #![tactic(auto)]
 
 ghost use Rattle.std.specs.Prelude.{◌≡◌, ◌++◌, ◌+◌, ◌≤◌, length, take, drop};
@@ -11,10 +10,16 @@ ghost use Rattle.walk.specs.Walk.{place_of};
 ghost use Rattle.lines.specs.Lines.{longest, Begins};
 ghost use Rattle.marking.specs.Marking.{mark_line};
 ghost use Rattle.marking_io.specs.Text.{IsText, read_bytes, text_room};
-ghost use Rattle.marking_io.specs.Calls.{Within, Received, script_in, Sent};
+ghost use Rattle.marking_io.specs.Calls.{Within, Took, Received, script_in, Reads, Gave, Sent, Prints};
+ghost use Rattle.marking_io.specs.Program.{MarksRead, MarksFrom};
 
-use libc::{EINTR, STDIN_FILENO, STDOUT_FILENO};
+#[cfg(test)]
+mod tests;
+
 use record::Written;
+use std::fmt::InlineText;
+use std::io;
+use std::io::{Error, ErrorKind, Read, Write};
 
 // A script has at most 65,536 bytes. One byte more is read, and marking then says that the script is too long.
 const READ: usize = 65537;
@@ -31,7 +36,7 @@ enum Call {
     // It moved so many bytes.
     Moved { count: usize },
     // It failed.
-    Broken,
+    Broken { error: Error },
 }
 
 // What was read.
@@ -40,7 +45,7 @@ enum Input {
     // So many bytes: all up to the input's end, or as many as there was room for.
     Got { length: usize },
     // A read call failed.
-    Unread,
+    Unread { error: Error },
 }
 
 // How printing ends.
@@ -49,7 +54,18 @@ enum Printed {
     // With so many bytes handed over.
     All { length: usize },
     // With a write call that failed.
-    Unwritten,
+    Unwritten { error: Error },
+}
+
+// How the marking of a script ends.
+#[derive(Clone, Copy)]
+pub enum Marking {
+    // Its text has been printed.
+    Done,
+    // A read call failed, and nothing has been printed.
+    Unreadable { error: Error },
+    // A write call failed, and what has been printed is no finished marking.
+    Unwritable { error: Error },
 }
 
 // Puts the line of an index, whose record stands at a position, behind the first n bytes of a text, and answers how many bytes the
@@ -86,34 +102,37 @@ fn fill(script: &[u8], out: &mut [u8]) -> usize
 }
 
 // One read into a lent buffer. A call that a signal interrupts before it moved a byte is made again.
-fn read_some(descriptor: i32, rest: &mut [u8]) -> Call
-    ensures { Within result (length rest.old) }
+fn read_some<R: Read>(reader: &mut R, rest: &mut [u8]) -> Call
+    ensures within { Within result (length rest.old) }
+    ensures bytes { Took result (R.remaining reader.old) (R.remaining reader.new) rest.new }
 {
-    let mut tries = TRIES;
-    while tries > 0 {
-        let got = libc::read(descriptor, rest);
-        if got >= 0 {
-            let count = io::count(got, rest);
-            return Call::Moved { count };
+    for _ in 0..TRIES {
+        match reader.read(rest) {
+            Ok(count) => return Call::Moved { count },
+            Err(error) => {
+                if error.kind() != ErrorKind::Interrupted {
+                    return Call::Broken { error };
+                }
+            }
         }
-        if os::errno() != EINTR {
-            return Call::Broken;
-        }
-        tries -= 1;
     }
-    Call::Broken
+    Call::Broken {
+        error: Error::from(ErrorKind::Interrupted),
+    }
 }
 
 // Reads until the buffer is full, the input ends or a call fails. A buffer of one byte more than a script may have is asked for, so that a
 // script that is too long is seen to be so.
-fn read_script(descriptor: i32, buffer: &mut [u8]) -> Input
+fn read_script<R: Read>(reader: &mut R, buffer: &mut [u8]) -> Input
     requires { length buffer.old ≡ read_bytes }
-    ensures { Received result (length buffer.old) }
+    ensures received { Received result (length buffer.old) }
+    ensures script { Reads result (R.remaining reader.old) buffer.new }
 {
     let mut n = 0;
     while n < buffer.len() {
-        let Call::Moved { count } = read_some(descriptor, &mut buffer[n..]) else {
-            return Input::Unread;
+        let count = match read_some(reader, &mut buffer[n..]) {
+            Call::Moved { count } => count,
+            Call::Broken { error } => return Input::Unread { error },
         };
         if count == 0 {
             return Input::Got { length: n };
@@ -124,77 +143,108 @@ fn read_script(descriptor: i32, buffer: &mut [u8]) -> Input
 }
 
 // One write of what is left of a text. The text and how much of it is done are for the contract alone.
-fn write_some(text: &[u8], done: usize, rest: &[u8]) -> Call
+fn write_some<W: Write>(writer: &mut W, text: &[u8], done: usize, rest: &[u8]) -> Call
     requires { rest.now ≡ drop done text.now }
-    ensures { Within result (length rest.now) }
+    ensures within { Within result (length rest.now) }
+    ensures bytes { Gave result (W.contents writer.old) (W.contents writer.new) rest.now }
 {
-    let mut tries = TRIES;
-    while tries > 0 {
-        let put = libc::write(STDOUT_FILENO, rest);
-        if put >= 0 {
-            let count = io::count(put, rest);
-            return Call::Moved { count };
+    for _ in 0..TRIES {
+        match writer.write(rest) {
+            Ok(count) => return Call::Moved { count },
+            Err(error) => {
+                if error.kind() != ErrorKind::Interrupted {
+                    return Call::Broken { error };
+                }
+            }
         }
-        if os::errno() != EINTR {
-            return Call::Broken;
-        }
-        tries -= 1;
     }
-    Call::Broken
+    Call::Broken {
+        error: Error::from(ErrorKind::Interrupted),
+    }
 }
 
 // Prints a text: that of the script that was read. The input and how much of it was read are for the contract alone.
-fn print(input: &[u8], got: Input, text: &[u8]) -> Printed
+fn print<W: Write>(writer: &mut W, input: &[u8], got: Input, text: &[u8]) -> Printed
     requires { IsText (script_in got input.now) text.now }
-    ensures { Sent result (length text.now) }
+    ensures sent { Sent result (length text.now) }
+    ensures bytes { Prints result (W.contents writer.old) (W.contents writer.new) text.now }
 {
     let mut done = 0;
     while done < text.len() {
-        let Call::Moved { count } = write_some(text, done, &text[done..]) else {
-            return Printed::Unwritten;
+        let count = match write_some(writer, text, done, &text[done..]) {
+            Call::Moved { count } => count,
+            Call::Broken { error } => return Printed::Unwritten { error },
         };
         if count == 0 {
-            return Printed::Unwritten;
+            let error = Error::from(ErrorKind::WriteZero);
+            return Printed::Unwritten { error };
         }
         done += count;
     }
     Printed::All { length: done }
 }
 
-// Makes the text of the script that was read in a lent buffer and prints it, or says on standard error what failed.
-fn mark_into(out: &mut [u8], input: &[u8], got: Input)
+// Makes the text of the script that was read in a lent buffer and prints it.
+fn mark_into<W: Write>(writer: &mut W, out: &mut [u8], input: &[u8], got: Input) -> Marking
     requires { (text_room ≤ length out.old) × Received got (length input.now) }
+    ensures { MarksRead got result (W.contents writer.old) (W.contents writer.new) input.now }
 {
-    let Input::Got { length: n } = got else {
-        return;
+    let n = match got {
+        Input::Got { length } => length,
+        Input::Unread { error } => return Marking::Unreadable { error },
     };
     let length = fill(&input[..n], out);
-    match print(input, got, &out[..length]) {
-        Printed::All { length: _ } => {}
-        Printed::Unwritten => os::fail(b"mark: standard output"),
+    match print(writer, input, got, &out[..length]) {
+        Printed::All { length: _ } => Marking::Done,
+        Printed::Unwritten { error } => Marking::Unwritable { error },
     }
 }
 
 // The same in a buffer of its own.
-fn mark_read(input: &[u8], got: Input)
+fn mark_read<W: Write>(writer: &mut W, input: &[u8], got: Input) -> Marking
     requires { Received got (length input.now) }
+    ensures { MarksRead got result (W.contents writer.old) (W.contents writer.new) input.now }
 {
     let mut out = [0u8; TEXT];
-    mark_into(&mut out, input, got);
+    mark_into(writer, &mut out, input, got)
 }
 
-// Marks the script that a descriptor gives, in however many pieces. Where it cannot be read, nothing is printed, and a line on standard
-// error says of what was to be read why.
-pub fn mark_from(descriptor: i32, what: &[u8]) {
+// Marks the script that a reader gives, in however many pieces, and prints its text to a writer. Where the script cannot be read, nothing is
+// printed.
+pub fn mark_script<R: Read, W: Write>(reader: &mut R, writer: &mut W) -> Marking
+    ensures { MarksFrom (R.remaining reader.old) result (W.contents writer.old) (W.contents writer.new) }
+{
     let mut input = [0u8; READ];
-    let got = read_script(descriptor, &mut input);
-    match got {
-        Input::Got { length: _ } => mark_read(&input, got),
-        Input::Unread => os::fail(what),
+    let got = read_script(reader, &mut input);
+    mark_read(writer, &input, got)
+}
+
+// The system's words for an error, without its number behind them.
+fn words(text: &str) -> &str {
+    match text.split_once(" (os error ") {
+        Some((words, _)) => words,
+        None => text,
+    }
+}
+
+// Says in a line on standard error of what failed why.
+pub fn fail(rt: &impl Eprint, what: &str, error: Error) {
+    let text = InlineText::<160>::of(error);
+    let reason = words(text.as_str());
+    let _ = eprintln!(rt; "{what}: {reason}");
+}
+
+// Marks the script that a reader gives on standard output. Where it cannot be read, nothing is printed, and a line on standard error says of
+// what was to be read why.
+pub fn mark_from<R: Read>(rt: &(impl Print + Eprint), reader: &mut R, what: &str) {
+    match mark_script(reader, &mut io::writer(rt)) {
+        Marking::Done => {}
+        Marking::Unreadable { error } => fail(rt, what, error),
+        Marking::Unwritable { error } => fail(rt, "mark: standard output", error),
     }
 }
 
 // Marks the script on standard input.
-pub fn mark_input() {
-    mark_from(STDIN_FILENO, b"mark: standard input");
+pub fn mark_input(rt: &(impl io::Input + Print + Eprint)) {
+    mark_from(rt, &mut rt.reader(), "mark: standard input");
 }
