@@ -1,62 +1,69 @@
 // Each service on lent bytes: what is asked and the answer, as one line.
 use crate::show;
+use std::io;
 
-fn say(text: &[u8]) {
-    io::write_all(1, text);
+fn say(rt: &impl Print, text: &str) -> io::Result<()> {
+    rt.print(text)
 }
 
-pub fn rewrite(name: &[u8], bytes: &[u8]) {
+pub fn rewrite(rt: &impl Print, name: &str, bytes: &[u8]) -> io::Result<()> {
     let mut out = [0u8; 1039];
-    say(name);
-    show::written(codec::rewrite(bytes, &mut out));
+    say(rt, name)?;
+    show::written(rt, codec::rewrite(bytes, &mut out))
 }
 
-pub fn test(name: &[u8], bytes: &[u8], word: &[u8]) {
-    say(name);
-    show::tested(testing::test(bytes, word));
+pub fn test(rt: &impl Print, name: &str, bytes: &[u8], word: &[u8]) -> io::Result<()> {
+    say(rt, name)?;
+    show::tested(rt, testing::test(bytes, word))
 }
 
-pub fn minimal(name: &[u8], bytes: &[u8], out: &mut [u8]) {
-    say(name);
-    show::minimised(minimal::minimal(bytes, out));
+pub fn minimal(rt: &impl Print, name: &str, bytes: &[u8], out: &mut [u8]) -> io::Result<()> {
+    say(rt, name)?;
+    show::minimised(rt, minimal::minimal(bytes, out))
 }
 
-pub fn compare(name: &[u8], first: &[u8], second: &[u8]) {
+pub fn compare(rt: &impl Print, name: &str, first: &[u8], second: &[u8]) -> io::Result<()> {
     let mut word = [0u8; 63];
-    say(name);
-    show::compared(compare::compare(first, second, &mut word));
+    say(rt, name)?;
+    show::compared(rt, compare::compare(first, second, &mut word))
 }
 
-pub fn sum(name: &[u8], first: &[u8], second: &[u8]) {
+pub fn sum(rt: &impl Print, name: &str, first: &[u8], second: &[u8]) -> io::Result<()> {
     let mut out = [0u8; 1039];
-    say(name);
-    show::written(operations::sum(first, second, &mut out));
+    say(rt, name)?;
+    show::written(rt, operations::sum(first, second, &mut out))
 }
 
-pub fn meet(name: &[u8], first: &[u8], second: &[u8]) {
+pub fn meet(rt: &impl Print, name: &str, first: &[u8], second: &[u8]) -> io::Result<()> {
     let mut out = [0u8; 1039];
-    say(name);
-    show::written(intersection::meet(first, second, &mut out));
+    say(rt, name)?;
+    show::written(rt, intersection::meet(first, second, &mut out))
 }
 
-pub fn product(name: &[u8], first: &[u8], second: &[u8], out: &mut [u8]) {
-    say(name);
-    show::written(operations::product(first, second, out));
+pub fn product(
+    rt: &impl Print,
+    name: &str,
+    first: &[u8],
+    second: &[u8],
+    out: &mut [u8],
+) -> io::Result<()> {
+    say(rt, name)?;
+    show::written(rt, operations::product(first, second, out))
 }
 
-pub fn star(name: &[u8], bytes: &[u8], out: &mut [u8]) {
-    say(name);
-    show::written(star::star(bytes, out));
+pub fn star(rt: &impl Print, name: &str, bytes: &[u8], out: &mut [u8]) -> io::Result<()> {
+    say(rt, name)?;
+    show::written(rt, star::star(bytes, out))
 }
 
-pub fn complement(name: &[u8], bytes: &[u8]) {
+pub fn complement(rt: &impl Print, name: &str, bytes: &[u8]) -> io::Result<()> {
     let mut out = [0u8; 1039];
-    say(name);
-    show::written(operations::complement(bytes, &mut out));
+    say(rt, name)?;
+    show::written(rt, operations::complement(bytes, &mut out))
 }
 
-pub fn catalogue(name: &[u8], number: usize) {
+pub fn catalogue(rt: &impl Print, name: &str, number: usize) -> io::Result<()> {
     let mut out = [0u8; 1039];
-    say(name);
-    show::written(catalogue::give(number, &mut out));
+    say(rt, name)?;
+    show::written(rt, catalogue::give(number, &mut out))
 }

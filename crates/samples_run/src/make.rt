@@ -37,9 +37,7 @@ pub fn power(b: &mut [u8], a: u8, k: u8, first: usize)
     set_bit(b, 7, 0);
     let last = k as usize;
     set_bit(b, 11, last);
-    let mut i: usize = 0;
-    while i < last {
+    for i in 0..last {
         set_bit(b, first + 4 * i, i + 1);
-        i += 1;
     }
 }

@@ -2,103 +2,69 @@
 use compare::{Compared, Side};
 use minimal::Minimised;
 use record::Written;
+use std::io;
 use testing::Tested;
 
-fn number(n: usize) {
-    io::print_decimal(1, n as u64);
+fn refused(rt: &impl Print, number: usize, record: usize, place: usize) -> io::Result<()> {
+    println!(rt; "refused {number}, record {record}, place {place}")
 }
 
-fn refused(n: usize, r: usize, place: usize) {
-    io::write_all(1, b"refused ");
-    number(n);
-    io::write_all(1, b", record ");
-    number(r);
-    io::write_all(1, b", place ");
-    number(place);
-    io::write_all(1, b"\n");
-}
-
-pub fn written(w: Written) {
+pub fn written(rt: &impl Print, w: Written) -> io::Result<()> {
     match w {
-        Written::Done { length } => {
-            number(length);
-            io::write_all(1, b" bytes\n");
-        }
+        Written::Done { length } => println!(rt; "{length} bytes"),
         Written::Refused {
             number,
             record,
             place,
-        } => {
-            refused(number, record, place);
-        }
+        } => refused(rt, number, record, place),
     }
 }
 
-pub fn minimised(m: Minimised) {
+pub fn minimised(rt: &impl Print, m: Minimised) -> io::Result<()> {
     match m {
         Minimised::Done { length, dimension } => {
-            number(length);
-            io::write_all(1, b" bytes, dimension ");
-            number(dimension);
-            io::write_all(1, b"\n");
+            println!(rt; "{length} bytes, dimension {dimension}")
         }
         Minimised::Refused {
             number,
             record,
             place,
-        } => {
-            refused(number, record, place);
-        }
+        } => refused(rt, number, record, place),
     }
 }
 
-fn side(s: Side) {
+fn side(s: Side) -> &'static str {
     match s {
-        Side::First => {
-            io::write_all(1, b"first");
-        }
-        Side::Second => {
-            io::write_all(1, b"second");
-        }
+        Side::First => "first",
+        Side::Second => "second",
     }
 }
 
-pub fn compared(c: Compared) {
+pub fn compared(rt: &impl Print, c: Compared) -> io::Result<()> {
     match c {
-        Compared::Same => {
-            io::write_all(1, b"same\n");
-        }
+        Compared::Same => println!(rt; "same"),
         Compared::Differs { length, side: s } => {
-            io::write_all(1, b"differs, word of ");
-            number(length);
-            io::write_all(1, b" letters, accepted by the ");
-            side(s);
-            io::write_all(1, b"\n");
+            println!(rt;
+                "differs, word of {length} letters, accepted by the {}",
+                side(s)
+            )
         }
         Compared::Refused {
             number,
             record,
             place,
-        } => {
-            refused(number, record, place);
-        }
+        } => refused(rt, number, record, place),
     }
 }
 
-pub fn tested(t: Tested) {
+pub fn tested(rt: &impl Print, t: Tested) -> io::Result<()> {
     match t {
-        Tested::Accepted => {
-            io::write_all(1, b"accepted\n");
-        }
-        Tested::Rejected => {
-            io::write_all(1, b"rejected\n");
-        }
+        Tested::Accepted => println!(rt; "accepted"),
+        Tested::Rejected => println!(rt; "rejected"),
         Tested::Refused {
             number,
             record,
             place,
-        } => {
-            refused(number, record, place);
-        }
+        } => refused(rt, number, record, place),
     }
 }
