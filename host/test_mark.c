@@ -53,7 +53,7 @@ static record all_words(void)
     return record_of(1, 2, rows, 4);
 }
 
-/* The script of 01: language X, its four-state machine, all words. */
+/* The example script: language X, its four-state machine, all words. */
 static void sample(void)
 {
     start();

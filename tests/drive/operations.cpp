@@ -100,7 +100,7 @@ void every_size(Run& run, const Bytes& first, const Bytes& other)
     run.one_sizes("mirror", nxa_mirror, second::mirror, first);
 }
 
-// The limits of 01: products of 63, 64 and more, dimensions of 32 and more.
+// The limits: products of 63, 64 and more, dimensions of 32 and more.
 void limits(Run& run)
 {
     for (std::size_t one = 0; one < 32; ++one) {

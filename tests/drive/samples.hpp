@@ -38,7 +38,7 @@ inline second::Bytes catalogue_record(std::size_t number)
     return bytes;
 }
 
-// The four states of document 004's X 12.
+// Language X by four states.
 inline second::Bytes x12() { return record_of(4, 2, {1, 3, 2, 4, 1, 8, 1, 1, 8, 8}); }
 inline second::Bytes nothing(std::size_t letters) { return record_of(0, letters, {0, 0}); }
 inline second::Bytes zeros() { return record_of(1, 2, {1, 1, 1, 0}); }                   // 0*

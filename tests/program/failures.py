@@ -10,7 +10,6 @@ interrupted. DATA is the folder with the stored scripts. Ends with status 1 at t
 import fcntl
 import os
 import pathlib
-import signal
 import subprocess
 import sys
 import time
@@ -40,11 +39,11 @@ class Desk:
         streams.setdefault("stdout", subprocess.PIPE)
         return subprocess.Popen([self.command], stderr=subprocess.PIPE, env=env, preexec_fn=None if close is None else lambda: os.close(close), **streams)
 
-    def told(self, name, process, line, printed=b"", status=None):
+    def told(self, name, process, line, printed=b""):
         """The case passes if this line alone stands on standard error and this was printed."""
         out, err = process.communicate(timeout=60)
         wanted = (line + "\n").encode() if line else b""
-        ended = status if status is not None else (1 if line and self.is_shell else 0)
+        ended = 1 if line and self.is_shell else 0
         if err != wanted or (out or b"") != printed or process.returncode != ended:
             sys.exit(f"failures: {self.command}: {name}: status {process.returncode}, standard error {err!r}, printed {out!r}")
         self.count += 1
@@ -84,17 +83,14 @@ class Desk:
             sys.exit(f"failures: {self.command}: output without room: {len(got)} bytes")
 
     def closing_pipes(self):
-        """A pipe that nobody reads, at once or after some bytes. The program by itself is ended by the signal, as the shell's status 141 says."""
+        """A pipe that nobody reads, at once or after some bytes. No signal ends the program, whether it was started with the signal ignored or not."""
         for wanted in (0, 10):
             out_end, in_end = pipe()
             process = self.start(stdin=open(self.long, "rb"), stdout=in_end)
             os.close(in_end)
             os.read(out_end, wanted)
             os.close(out_end)
-            if self.is_shell:
-                self.told("closing pipe", process, OUTPUT + "Broken pipe")
-            else:
-                self.told("closing pipe", process, "", status=-signal.SIGPIPE)
+            self.told("closing pipe", process, OUTPUT + "Broken pipe")
         out_end, in_end = pipe()
         os.close(out_end)
         process = subprocess.Popen([self.command], stdin=open(self.long, "rb"), stdout=in_end, stderr=subprocess.PIPE, restore_signals=False)

@@ -15,7 +15,7 @@ struct Language {
     std::vector<Machine> operands;
 };
 
-// The minimal machine: its states are the basis words in shortlex order (01: prefix order).
+// The minimal machine: its states are the basis words in shortlex order (prefix order).
 // Its number of states is the dimension. For a meet the cost grows with the product of the states.
 Machine minimal_machine(const Language& language);
 

@@ -1,4 +1,4 @@
-// The second program: every service of document 01, from bytes to bytes, by plain means.
+// The second program: every service of the desk, from bytes to bytes, by plain means.
 #ifndef SECOND_SECOND_HPP
 #define SECOND_SECOND_HPP
 
