@@ -245,6 +245,6 @@ pub fn mark_from<R: Read>(rt: &(impl Print + Eprint), reader: &mut R, what: &str
 }
 
 // Marks the script on standard input.
-pub fn mark_input(rt: &(impl io::Input + Print + Eprint)) {
-    mark_from(rt, &mut rt.reader(), "mark: standard input");
+pub fn mark_input(rt: &HostRuntime) {
+    mark_from(rt, &mut rt.stdin(), "mark: standard input");
 }
