@@ -1,5 +1,5 @@
 -- What a service that writes does: row 12, and a record written afresh.
-use mathlib.Core.Path.{◌≡◌, refl, ap₂, ◌∙◌}
+use mathlib.Core.Path.{◌≡◌, refl, ap, ap₂, ◌∙◌}
 use mathlib.Core.Bool.{Bool, true, false, cond}
 use mathlib.Core.List.{List}
 use Prim.Native.Nat.{ℕ, ◌≤◌, ◌<◌}
@@ -9,11 +9,13 @@ use lib.Dec.{ltb}
 use lib.ListN.{length, take, drop}
 use lib.Seq.{take-append-le, take_all}
 use Rattle.record.specs.Record.{check_of, WellFormed}
-use Rattle.record.specs.Rules.{Check}
+use Rattle.record.specs.Rules.{Check, refusal, refusal_of}
 use Rattle.record.specs.declared.Rule.{Rule}
 use Rattle.record.specs.declared.Rule.TheVariants.{NoRoom}
 use Rattle.record.specs.declared.Fault.{Fault}
+use Rattle.record.specs.declared.Refusal.{Refusal}
 use Rattle.std.specs.Prelude.{Ok, Err}
+use Rattle.record.proofs.Refusals.{told_good}
 use Rattle.record.specs.Outcome.{Outcome, refused, wrote, answer_of, buffer_of, checked, fit, rewrite_of}
 
 module _ (room : ℕ) {l : ℕ} (out : List ℕ) (e : length out ≡ l) where
@@ -66,3 +68,13 @@ fit_bytes room n bs buf e = go (ltb room (length bs)) e
     go : (b : Bool) → answer_of (cond b (refused NoRoom 0 (length bs)) (wrote bs)) ≡ Ok n → take n (buffer_of (cond b (refused NoRoom 0 (length bs)) (wrote bs)) buf) ≡ bs
     go true e = let z : ◌≡◌ {A = ℕ} 0 1 = cc in absurd (omega arith)
     go false e = outcome_take (wrote bs) bs buf n refl (cc)
+
+-- ---- a service's record that is refused
+
+-- The refusal is the whole outcome; so the answer is that refusal, and the buffer stays.
+pub checked_refused : (c : Check) (which : ℕ) (rest : Outcome) {r : Refusal} → Err r ≡ refusal_of c which → checked c which rest ≡ refused r.rule r.record r.place
+checked_refused (Ok u) which rest e = let z : ◌≡◌ {A = ℕ} 0 1 = cc in absurd (omega arith)
+checked_refused (Err f) which rest {r} e = let q : r ≡ refusal f.rule which f.place = cc in rw q
+
+pub checked_good : (c : Check) (which : ℕ) (rest : Outcome) → Ok tt ≡ refusal_of c which → checked c which rest ≡ rest
+checked_good c which rest e = ap (λ x. checked x which rest) (told_good c which e)

@@ -1,5 +1,5 @@
 -- The record check: what each row refuses where those before it pass, and what a record that passes is.
-use mathlib.Core.Path.{◌≡◌, refl, sym, ◌∙◌}
+use mathlib.Core.Path.{◌≡◌, refl, sym, ap, ◌∙◌}
 use mathlib.Core.List.{List}
 use mathlib.Core.Bool.{Bool, true, false, not, ◌||◌}
 use Prim.Native.Nat.{ℕ, zero, suc, ◌+◌, ◌-◌, ◌*◌, ◌/◌, ◌≤◌, ◌<◌, ◌^◌}
@@ -10,11 +10,13 @@ use lib.ListN.{length, get_or}
 use lib.Dec.{ltb, leb, eqb}
 use Rattle.record.specs.Bytes.{number}
 use Rattle.record.specs.Record.{version, max_states, max_letters, row_bytes, header, initial_at, states_of, letters_of, row, and_then, front_of, need_of, stray_from, check_of, WellFormed}
-use Rattle.record.specs.Rules.{Check, fault}
+use Rattle.record.specs.Rules.{Check, fault, refusal, refusal_of}
 use Rattle.record.specs.declared.Rule.{Rule}
 use Rattle.record.specs.declared.Rule.TheVariants.{TooShort, WrongMark, WrongVersion, States, Letters, WrongLength, StrayBit}
 use Rattle.record.specs.declared.Fault.{Fault}
-use Rattle.std.specs.Prelude.{Ok, Err}
+use Rattle.record.specs.declared.Refusal.{Refusal}
+use Rattle.std.specs.Prelude.{Result, Ok, Err, IsErrAnd}
+use Rattle.std.proofs.lemmas.Result.{err_from_is_err_and}
 
 -- The rows of a record are at most 256.
 pub area : (a n : ℕ) → a ≤ max_letters → n ≤ max_states → a * n ≤ 256
@@ -233,3 +235,21 @@ pub check_good : (bs : List ℕ) → Passed bs → WellFormed bs
 check_good bs p =
     sym (fields_met bs (front_good bs p.front) p.whole)
     ∙ good_stray row_bytes (states_of bs) bs (2 + letters_of bs * states_of bs) initial_at p.below
+
+-- ---- the check of a service's record
+
+pub told_good : (c : Check) (which : ℕ) → Ok tt ≡ refusal_of c which → c ≡ Ok tt
+told_good (Ok u) which e = refl
+told_good (Err f) which e = let z : ◌≡◌ {A = ℕ} 0 1 = cc in absurd (omega arith)
+
+pub told_fault : (c : Check) (which : ℕ) {r : Refusal} → Err r ≡ refusal_of c which → (f : Fault) × (c ≡ Err f) × (r ≡ refusal f.rule which f.place)
+told_fault (Ok u) which e = let z : ◌≡◌ {A = ℕ} 0 1 = cc in absurd (omega arith)
+told_fault (Err f) which e = (f, refl, cc)
+
+-- Equal refusals have equal parts.
+pub same_error : {T E : Type 0} {x y : E} → ◌≡◌ {A = Result T E} (Err x) (Err y) → x ≡ y
+same_error e = cc
+
+-- What `?` returns is the error that it met.
+pub returned : {T E : Type 0} (r : Result T E) {e : E} → IsErrAnd r (λ y. y ≡ e) → r ≡ Err e
+returned r h = let p = err_from_is_err_and r h in p.1 ∙ ap Err p.2
