@@ -78,3 +78,7 @@ checked_refused (Err f) which rest {r} e = let q : r ≡ refusal f.rule which f.
 
 pub checked_good : (c : Check) (which : ℕ) (rest : Outcome) → Ok tt ≡ refusal_of c which → checked c which rest ≡ rest
 checked_good c which rest e = ap (λ x. checked x which rest) (told_good c which e)
+
+pub rewrite_told : (bs : List ℕ) (room : ℕ) {r : Refusal} → Err r ≡ refusal_of (check_of bs) 1 → rewrite_of bs room ≡ refused r.rule r.record r.place
+unfolding rewrite_of
+rewrite_told bs room e = checked_refused (check_of bs) 1 (fit room bs) e
