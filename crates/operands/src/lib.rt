@@ -3,7 +3,7 @@
 
 ghost use Rattle.std.specs.Prelude.{◌≡◌};
 ghost use Rattle.record.specs.Record.{letters_of};
-ghost use Rattle.operands.specs.Meant.{blank_of};
+ghost use Rattle.operands.specs.Meant.{blank_of, meant_over};
 ghost use Rattle.operands.specs.Operands.{pair_of};
 
 use record::{ROWS_AT, Refusal, Rule, VERSION};
@@ -29,6 +29,17 @@ pub fn blank(first: &[u8], out: &mut [u8; BLANK])
     let a = letters(first);
     let v = VERSION as u8;
     *out = [0x4E, 0x58, 0x41, v, 0, 0, a, 0, 0, 0, 0, 0, 0, 0, 0];
+}
+
+// The record that the second one stands for: itself, or for 0 bytes the blank, which is written to the room lent for it.
+pub fn meant<'a>(first: &[u8], second: &'a [u8], room: &'a mut [u8; BLANK]) -> &'a [u8]
+    ensures { result.now ≡ meant_over (letters_of first.now) second.now }
+{
+    if second.is_empty() {
+        blank(first, room);
+        return room;
+    }
+    second
 }
 
 // Rows 1 to 7 of the first record, then of the second, then row 8.
