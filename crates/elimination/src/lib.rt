@@ -24,14 +24,12 @@ fn fold(b: &mut [u64], stride: usize, l: usize, n: usize, q: usize, x: Row)
     requires { (l < parts) × (n ≤ stride) × (q < width) × Room stride b.old }
     ensures { Folded stride (λ j. j < n) l q (mask x) b.old b.new }
 {
-    let mut j: usize = 0;
-    while j < n {
+    for j in 0..n {
         let e = basis::get(b, stride, 0, j);
         let o = rows::has(e, q);
         let u = rows::when(o, x);
         let d = basis::get(b, stride, l, j);
         basis::put(b, stride, l, j, rows::xor(d, u));
-        j += 1;
     }
 }
 
@@ -42,10 +40,7 @@ fn spread(b: &mut [u64], stride: usize, l: usize, n: usize, p: Row, v: Row, q: u
     ensures { Folded stride (λ j. (j < n) × (bit_of (mask p) j ≡ true)) l q (mask x) b.old b.new }
 {
     if rows::has(v, q) {
-        let mut k = rows::span(p);
-        if stride < k {
-            k = stride;
-        }
+        let k = rows::span(p).min(stride);
         fold(b, stride, l, k, q, x);
     }
 }
