@@ -19,6 +19,19 @@ pub struct Size {
     pub used: Row,
 }
 
+impl Size {
+    // No row is found yet.
+    pub fn empty() -> Size
+        ensures { (result.count ≡ 0) × (mask result.pivots ≡ 0) × (mask result.used ≡ 0) }
+    {
+        Size {
+            count: 0,
+            pivots: rows::none(),
+            used: rows::none(),
+        }
+    }
+}
+
 // Adds x to the rows of block l below n whose neighbours in block 0 have bit q.
 fn fold(b: &mut [u64], stride: usize, l: usize, n: usize, q: usize, x: Row)
     requires { (l < parts) × (n ≤ stride) × (q < width) × Room stride b.old }
