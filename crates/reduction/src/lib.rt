@@ -54,11 +54,9 @@ fn expand_letters(t: &Table, m: Machine, b: &mut Basis, out: &mut Table, s: Size
     let mut y = [0u64; 8];
     multiply(t, a, b, k, &mut y);
     let mut r = s;
-    let mut l: usize = 0;
-    while l < a {
+    for l in 0..a {
         let z = kernels::pick(&y, l);
         r = step(t, m, b, out, z, r, k, l);
-        l += 1;
     }
     r
 }
@@ -115,11 +113,9 @@ fn look_up_row(
     let a = m.letters;
     let mut y = [0u64; 8];
     multiply(t, a, b, k, &mut y);
-    let mut l: usize = 0;
-    while l < a {
+    for l in 0..a {
         let z = kernels::pick(&y, l);
         look_up(t, m, b, tab, g, out, z, s, k, l);
-        l += 1;
     }
 }
 
@@ -132,10 +128,8 @@ fn look_up_rows(t: &Table, m: Machine, b: &Basis, out: &mut Table, s: Size, firs
     let p = s.pivots;
     let mut tab = [0u64; 256];
     let g = lookup::fill(b, WIDEST, 2, p, &mut tab);
-    let mut k = first;
-    while k < d {
+    for k in first..d {
         look_up_row(t, m, b, &tab, g, out, s, k);
-        k += 1;
     }
 }
 
@@ -174,14 +168,12 @@ pub fn column(b: &Basis, n: usize, d: usize, f: Row) -> Row
     ensures { Column n b.now d (mask f) (mask result) × (mask result < 2 ^ d) }
 {
     let mut y = rows::none();
-    let mut i: usize = 0;
-    while i < d {
+    for i in 0..d {
         let x = basis::get(b, WIDEST, 1, i);
         let o = rows::parity(x, f);
         let u = rows::unit(i);
         let v = rows::when(o, u);
         y = rows::xor(y, v);
-        i += 1;
     }
     y
 }

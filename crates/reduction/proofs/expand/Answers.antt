@@ -33,6 +33,3 @@ returns-then-a-eq1 c =
     let out = t.new.out in
     let e : 0 + 1 ≡ m.letters = omega (arith, c.if-a-eq1.true) in
     (searching_next m.letters a.t.now m.states (mask m.initial) (mask m.finals) b out r.count a.k (mask r.pivots) (mask r.used) (subst (λ l. Searching m.letters a.t.now m.states (mask m.initial) (mask m.finals) b out r.count a.k l (mask r.pivots) (mask r.used)) e t.ensures.0), t.ensures.1)
-
-pub returns : goal.returns
-returns c = c.expand_letters.ensures

@@ -25,33 +25,15 @@ made c =
 pub multiply-requires : goal.multiply-requires
 multiply-requires c = (c.requires.0.letters, c.requires.1.base, below (goal.at.multiply-requires c).Start, refl)
 
-pub loop-l-init : goal.loop-l-init
-loop-l-init c = (omega arith, c.requires.1, omega arith, refl)
-
-pub pick-z-requires : goal.pick-z-requires
-pick-z-requires c = omega (arith, c.loop-l-test.true, c.requires.0.letters)
-
 pub step-r-requires : goal.step-r-requires
 step-r-requires c =
     let v = c.loop-l in
     let a = c.args in
-    (c.requires.0, v.invariant.1, omega (arith, v.invariant.2, c.requires.2), omega (arith, c.loop-l-test.true), c.pick-z.ensures ∙ made (goal.at.step-r-requires c).After-multiply v.l (omega (arith, c.loop-l-test.true)) ∙ ap (λ x. product a.m.states x (at a.t.now v.l)) (sym v.invariant.3))
-
-pub overflow_add-l : goal.overflow_add-l
-overflow_add-l c = omega (arith, c.loop-l-test.true, c.requires.0.letters)
-
-pub loop-l-smaller : goal.loop-l-smaller
-loop-l-smaller c = omega (arith, c.loop-l-test.true)
-
-pub loop-l-preserved : goal.loop-l-preserved
-loop-l-preserved c =
-    let v = c.loop-l in
-    let e = c.step-r.ensures in
-    (omega (arith, c.loop-l-test.true), e.0, omega (arith, e.1, v.invariant.2), e.2 ∙ v.invariant.3)
+    (c.requires.0, v.invariant.0, omega (arith, v.invariant.1, c.requires.2), c.loop-l-test.true, c.pick-z.ensures ∙ made (goal.at.step-r-requires c).After-multiply v.l c.loop-l-test.true ∙ ap (λ x. product a.m.states x (at a.t.now v.l)) (sym v.invariant.2))
 
 pub returns : goal.returns
 returns c =
     let v = c.loop-l in
     let a = c.args in
     let e : v.l ≡ a.m.letters = omega arith in
-    (searching_next a.m.letters a.t.now a.m.states (mask a.m.initial) (mask a.m.finals) v.b v.out v.r.count a.k (mask v.r.pivots) (mask v.r.used) (rw e at v.invariant.1), v.invariant.2)
+    (searching_next a.m.letters a.t.now a.m.states (mask a.m.initial) (mask a.m.finals) v.b v.out v.r.count a.k (mask v.r.pivots) (mask v.r.used) (rw e at v.invariant.0), v.invariant.1)
