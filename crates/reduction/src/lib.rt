@@ -36,17 +36,21 @@ pub fn step(
     q.size
 }
 
-// The products of row k of the basis with the first a letters, in a line.
+// The products of row k of the basis with the first a letters, in a line. Over one letter there is no matrix beside the first.
 pub fn multiply(t: &Table, a: usize, b: &Basis, k: usize, y: &mut Line)
     requires { (a ≤ blocks) × (length b.now ≡ basis_size) × (k < width) × (length y.old ≡ blocks) }
     ensures { (n : ℕ) → cell width b.now 1 k < 2 ^ n → Products a n (cell width b.now 1 k) (at t.now) y.new }
 {
     let x = basis::get(b, WIDEST, 1, k);
+    if a == 1 {
+        kernels::put(y, 0, rows::times(t, 0, x));
+        return;
+    }
     kernels::times_all(t, a, x, y);
 }
 
-// Row k by every letter, the products in a line.
-fn expand_letters(t: &Table, m: Machine, b: &mut Basis, out: &mut Table, s: Size, k: usize) -> Size
+// Row k by every letter.
+pub fn expand(t: &Table, m: Machine, b: &mut Basis, out: &mut Table, s: Size, k: usize) -> Size
     requires { Valid t.now m × Searching m.letters t.now m.states (mask m.initial) (mask m.finals) b.old out.old s.count k 0 (mask s.pivots) (mask s.used) × (k < s.count) }
     ensures { Searching m.letters t.now m.states (mask m.initial) (mask m.finals) b.new out.new result.count (k + 1) 0 (mask result.pivots) (mask result.used) × (s.count ≤ result.count) }
 {
@@ -59,20 +63,6 @@ fn expand_letters(t: &Table, m: Machine, b: &mut Basis, out: &mut Table, s: Size
         r = step(t, m, b, out, z, r, k, l);
     }
     r
-}
-
-// Row k by every letter. Over one letter there is no line.
-pub fn expand(t: &Table, m: Machine, b: &mut Basis, out: &mut Table, s: Size, k: usize) -> Size
-    requires { Valid t.now m × Searching m.letters t.now m.states (mask m.initial) (mask m.finals) b.old out.old s.count k 0 (mask s.pivots) (mask s.used) × (k < s.count) }
-    ensures { Searching m.letters t.now m.states (mask m.initial) (mask m.finals) b.new out.new result.count (k + 1) 0 (mask result.pivots) (mask result.used) × (s.count ≤ result.count) }
-{
-    let a = m.letters;
-    if a == 1 {
-        let x = basis::get(b, WIDEST, 1, k);
-        let y = rows::times(t, 0, x);
-        return step(t, m, b, out, y, s, k, 0);
-    }
-    expand_letters(t, m, b, out, s, k)
 }
 
 // Row k of the basis times letter l, which is y, where as many rows are found as there are states: it is an xor of them, and the first g
