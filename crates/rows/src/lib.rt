@@ -11,7 +11,7 @@ ghost use Rattle.rows.specs.Table.{blocks, at, stored};
 ghost use Rattle.rows.specs.Product.{product};
 
 // A row of `width` bits.
-#[derive(Clone, Copy)]
+#[derive(Clone, Copy, PartialEq, Eq)]
 pub struct Row {
     pub bits: u64,
 }
