@@ -4,7 +4,7 @@
 ghost use Rattle.std.specs.Prelude.{◌≡◌, ◌+◌, ◌≤◌, ◌<◌, length};
 ghost use Rattle.automata.specs.Word.{Over};
 ghost use Rattle.record.specs.Outcome.{fit, answer_of, buffer_of};
-ghost use Rattle.lines.specs.Lines.{opening, refused_line, dim_line, differ_line, accepted_by};
+ghost use Rattle.lines.specs.Lines.{opening, refused_line, dim_line, differ_line, accepted_by, longest};
 
 use compare::Side;
 use record::Written;
@@ -15,6 +15,7 @@ use text::Line;
 pub fn give(line: &Line, out: &mut [u8]) -> Written
     ensures answer { result ≡ answer_of (fit (length out.old) line.now) }
     ensures buffer { out.new ≡ buffer_of (fit (length out.old) line.now) out.old }
+    ensures room { length line.now ≤ longest }
 {
     let bytes = line.bytes();
     let n = bytes.len();
