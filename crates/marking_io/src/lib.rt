@@ -26,6 +26,9 @@ use std::io::{Error, ErrorKind, Read, Write};
 // A script has at most 65,536 bytes. One byte more is read, and marking then says that the script is too long.
 const READ: usize = 65537;
 
+// No script has a line of this index or of one after it.
+const LINES: usize = 4370;
+
 // The bytes of the buffer for the text: at most 4,370 lines of at most 160 bytes, and room for one line more.
 const TEXT: usize = 699360;
 
@@ -61,17 +64,16 @@ fn fill(script: &[u8], out: &mut [u8]) -> usize
     ensures text { IsText script.now (take result out.new) }
 {
     let mut n = 0;
-    let mut index = 0;
     let mut at = 0;
-    loop {
+    for index in 0..=LINES {
         let more = put_line(script, index, at, out, n);
         if more == n {
             return n;
         }
         at = walk::past(script, index, at);
-        index += 1;
         n = more;
     }
+    n
 }
 
 // One read into a lent buffer. A call that a signal interrupts before it moved a byte is made again.
@@ -142,7 +144,12 @@ fn print<W: Write>(writer: &mut W, script: &[u8], text: &[u8]) -> io::Result<usi
 
 // Makes the text of the script that was read in a lent buffer and prints it. What reading answered is handed in, so that the contract says
 // what becomes of a read that failed.
-fn mark_into<W: Write>(writer: &mut W, out: &mut [u8], input: &[u8], got: io::Result<usize>) -> Result<(), MarkError>
+fn mark_into<W: Write>(
+    writer: &mut W,
+    out: &mut [u8],
+    input: &[u8],
+    got: io::Result<usize>,
+) -> Result<(), MarkError>
     requires { (text_room ≤ length out.old) × Received got (length input.now) }
     ensures { MarksRead got result (W.contents writer.old) (W.contents writer.new) input.now }
 {
@@ -154,7 +161,11 @@ fn mark_into<W: Write>(writer: &mut W, out: &mut [u8], input: &[u8], got: io::Re
 }
 
 // The same in a buffer of its own.
-fn mark_read<W: Write>(writer: &mut W, input: &[u8], got: io::Result<usize>) -> Result<(), MarkError>
+fn mark_read<W: Write>(
+    writer: &mut W,
+    input: &[u8],
+    got: io::Result<usize>,
+) -> Result<(), MarkError>
     requires { Received got (length input.now) }
     ensures { MarksRead got result (W.contents writer.old) (W.contents writer.new) input.now }
 {
