@@ -12,7 +12,7 @@ second : (s : Start) → Bounded s.args.g.letters s.args.u.now s.args.h.states (
 second s = subst (λ a. Bounded a s.args.u.now s.args.h.states (mask s.args.h.initial) (mask s.args.h.finals)) s.requires.2 s.requires.1
 
 pub cross-requires : goal.cross-requires
-cross-requires c = (c.requires.0.letters, c.requires.0.states, c.requires.3, (second (goal.at.cross-requires c).Start).rows, c.requires.4)
+cross-requires c = (c.requires.0.letters, c.requires.0.states, c.requires.3, (second (goal.at.cross-requires c).Start).rows)
 
 pub kron-initial-requires : goal.kron-initial-requires
 kron-initial-requires c = (c.requires.0.states, c.requires.3, c.requires.1.initial)
