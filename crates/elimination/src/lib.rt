@@ -19,19 +19,30 @@ pub struct Size {
     pub used: Row,
 }
 
+impl Size {
+    // No row is found yet.
+    pub fn empty() -> Size
+        ensures { (result.count ≡ 0) × (mask result.pivots ≡ 0) × (mask result.used ≡ 0) }
+    {
+        Size {
+            count: 0,
+            pivots: rows::none(),
+            used: rows::none(),
+        }
+    }
+}
+
 // Adds x to the rows of block l below n whose neighbours in block 0 have bit q.
 fn fold(b: &mut [u64], stride: usize, l: usize, n: usize, q: usize, x: Row)
     requires { (l < parts) × (n ≤ stride) × (q < width) × Room stride b.old }
     ensures { Folded stride (λ j. j < n) l q (mask x) b.old b.new }
 {
-    let mut j: usize = 0;
-    while j < n {
+    for j in 0..n {
         let e = basis::get(b, stride, 0, j);
         let o = rows::has(e, q);
         let u = rows::when(o, x);
         let d = basis::get(b, stride, l, j);
         basis::put(b, stride, l, j, rows::xor(d, u));
-        j += 1;
     }
 }
 
@@ -42,10 +53,7 @@ fn spread(b: &mut [u64], stride: usize, l: usize, n: usize, p: Row, v: Row, q: u
     ensures { Folded stride (λ j. (j < n) × (bit_of (mask p) j ≡ true)) l q (mask x) b.old b.new }
 {
     if rows::has(v, q) {
-        let mut k = rows::span(p);
-        if stride < k {
-            k = stride;
-        }
+        let k = rows::span(p).min(stride);
         fold(b, stride, l, k, q, x);
     }
 }

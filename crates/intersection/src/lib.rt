@@ -78,8 +78,8 @@ fn product(t: &Table, g: Machine, u: &Table, h: Machine, s: &mut Table) -> Machi
     Machine {
         states: n * m,
         letters: a,
-        initial: initial,
-        finals: finals,
+        initial,
+        finals,
     }
 }
 

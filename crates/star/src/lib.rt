@@ -62,7 +62,7 @@ fn repeat(t: &mut Table, g: Machine) -> Machine
         states: n + 1,
         letters: a,
         initial: new,
-        finals: finals,
+        finals,
     }
 }
 

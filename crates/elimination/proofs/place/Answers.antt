@@ -3,8 +3,8 @@ use mathlib.Core.Path.{◌≡◌, refl, sym, ◌∙◌}
 use mathlib.Core.Logic.{inl, inr}
 use Prim.Native.Nat.{ℕ, ◌<◌}
 use native.Mathlib.Omega.{arith}
-use borrow.Author.Tests.{eqb-true, eqb-false}
 use Rattle.std.proofs.Common.{rules}
+use borrow.Author.Tests.{eqb-true}
 use Rattle.automata.specs.Mask.{bit_of}
 use Rattle.rows.specs.Row.{mask, mask_at}
 use Rattle.basis.specs.Basis.{bits}
@@ -47,11 +47,6 @@ returns-then-is_none c =
     let t = a.b.now in
     inl (place_old a.stride a.n a.s.count (mask a.s.pivots) (mask a.s.used) (mask a.y) t (bits a.stride t 2) c.requires.4 c.requires.3 (mask c.xor-left.result) (left (goal.at.returns-then-is_none c).After-xor-left) (bit_of (mask_at c.times_each.result 1)) (named (goal.at.returns-then-is_none c).After-xor-left)
     (eqb-true (mask c.xor-left.result) 0 (sym c.is_none.ensures ∙ c.if-is_none.true)))
-
-pub lowest-q-requires : goal.lowest-q-requires
-lowest-q-requires c =
-    let some = eqb-false (mask c.xor-left.result) 0 (sym c.is_none.ensures ∙ c.if-is_none.false) in
-    omega (arith, some)
 
 -- The new pivot is below n, and there is room for one more row.
 fits : (c : After-lowest-q) → (c.lowest-q.result < c.args.n) × (c.args.s.count < c.args.n)

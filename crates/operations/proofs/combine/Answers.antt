@@ -1,36 +1,19 @@
 -- `combine`: both records as they are meant.
-use mathlib.Core.Path.{◌≡◌, sym, ap, subst, ◌∙◌}
-use mathlib.Core.List.{List}
-use Prim.Native.Nat.{ℕ}
+use mathlib.Core.Path.{subst}
 use native.Mathlib.Omega.{arith}
-use lib.ListN.{length}
 use Rattle.record.specs.Record.{letters_of}
-use Rattle.record.specs.Outcome.{answer_in, buffer_in}
-use Rattle.record.specs.declared.Written.{Written}
-use Rattle.operands.proofs.MeantLaws.{blank_length, meant_blank, meant_itself}
-use Rattle.operations.specs.Operations.{binary_outcome, Combines}
-use Rattle.operations.specs.declared.Binary.{Binary}
-use borrow.Author.Rules.{rules}
+use Rattle.operands.proofs.MeantLaws.{meant_blank, meant_itself}
+use Rattle.operations.specs.Operations.{Combines}
 use Rattle.operations.proofs.combine.Goals as goal
 
--- What is promised of two records that stand for themselves.
-abbrev Promises : Binary → List ℕ → List ℕ → List ℕ → Written → List ℕ → Type 0
-Promises k bs buf exit r cs = (r ≡ answer_in (binary_outcome k bs cs) buf) × ((exit ≡ buffer_in (binary_outcome k bs cs) buf) × Combines k bs cs exit r)
-
-pub slice_bounds-combine_meant-end : goal.slice_bounds-combine_meant-end
-slice_bounds-combine_meant-end c = let l = sym (ap length c.blank.ensures ∙ blank_length _) in search rules
-
-pub returns-then-second-eq0 : goal.returns-then-second-eq0
-returns-then-second-eq0 c =
+pub returns-then-second-eq0-clause-claims : goal.returns-then-second-eq0-clause-claims
+returns-then-second-eq0-clause-claims g c =
     let a = c.args in
-    let b = c.blank in
     let m = c.combine_meant in
-    let p = subst (Promises a.k a.first.now a.out.now m.new.out m.result) (meant_blank (letters_of a.first.now) b.new.out a.second.now (omega (arith, c.if-second-eq0.true)) b.ensures) (m.ensures.answer, (m.ensures.buffer, m.ensures.claims)) in
-    record { answer = p.0; buffer = p.1.0; claims = p.1.1 }
+    subst (λ cs. Combines g.O.Binary.words a.first.now cs m.new.out m.result) (meant_blank (letters_of a.first.now) _ a.second.now (omega arith) c.blank.ensures) m.ensures.claims
 
-pub returns : goal.returns
-returns c =
+pub returns-clause-claims : goal.returns-clause-claims
+returns-clause-claims g c =
     let a = c.args in
     let m = c.combine_meant-2 in
-    let p = subst (Promises a.k a.first.now a.out.now m.new.out m.result) (meant_itself (letters_of a.first.now) a.second.now (λ none. omega (arith, c.if-second-eq0.false))) (m.ensures.answer, (m.ensures.buffer, m.ensures.claims)) in
-    record { answer = p.0; buffer = p.1.0; claims = p.1.1 }
+    subst (λ cs. Combines g.O.Binary.words a.first.now cs m.new.out m.result) (meant_itself (letters_of a.first.now) a.second.now (λ none. omega arith)) m.ensures.claims
