@@ -83,7 +83,7 @@ pub fn left_of(b: &[u64], stride: usize, s: Size, y: Row) -> Row
 {
     let p = s.pivots;
     let z = rows::and(y, p);
-    let e = basis::times(b, stride, 0, z);
+    let [e]: [Row; 1] = basis::times_each(b, stride, [0], z);
     rows::xor(y, e)
 }
 
@@ -124,9 +124,7 @@ pub fn place(b: &mut [u64], stride: usize, n: usize, s: Size, y: Row) -> Spot
     let p = s.pivots;
     let v = s.used;
     let z = rows::and(y, p);
-    let w = basis::times_two(b, stride, 0, 2, z);
-    let e = w.first;
-    let c = w.second;
+    let [e, c]: [Row; 2] = basis::times_each(b, stride, [0, 2], z);
     let left = rows::xor(y, e);
     if rows::is_none(left) {
         return Spot { row: c, size: s };
