@@ -20,7 +20,7 @@ pub open_rows-requires : goal.open_rows-requires
 open_rows-requires c = (c.requires.0.letters, c.requires.0.states, c.requires.0.rows, c.requires.0.size)
 
 pub join-requires : goal.join-requires
-join-requires c = (c.requires.0.letters, c.requires.3, c.requires.4, (second (goal.at.join-requires c).Start).rows, c.open_rows.ensures.size)
+join-requires c = (c.requires.0.letters, c.requires.3, c.requires.4, (second (goal.at.join-requires c).Start).rows)
 
 pub moved-finals-requires : goal.moved-finals-requires
 moved-finals-requires c =
