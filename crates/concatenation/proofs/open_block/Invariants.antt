@@ -1,5 +1,4 @@
 -- `open_block`: the first k rows are opened, the others are as they were.
-use Prim.Native.Nat.{◌-◌}
 use Rattle.rows.specs.Row.{mask}
 use Rattle.rows.specs.Table.{at}
 use Rattle.direct_sum.specs.Filled.{Changed}

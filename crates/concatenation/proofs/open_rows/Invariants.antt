@@ -1,5 +1,4 @@
 -- `open_rows`: the rows of the letters below l are opened.
-use Prim.Native.Nat.{◌-◌}
 use Rattle.rows.specs.Row.{mask}
 use Rattle.rows.specs.Table.{at}
 use Rattle.direct_sum.specs.Filled.{ChangedUpTo}

@@ -1,5 +1,5 @@
 -- `cross`: the blocks below l are filled.
-use Prim.Native.Nat.{◌-◌, ◌*◌}
+use Prim.Native.Nat.{◌*◌}
 use Rattle.direct_sum.specs.Filled.{Filled}
 use Rattle.intersection.specs.Kron.{crossed}
 use Rattle.intersection.proofs.cross.Given as goal

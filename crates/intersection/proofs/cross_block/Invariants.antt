@@ -1,5 +1,5 @@
 -- `cross_block`: the rows below k of block l are filled.
-use Prim.Native.Nat.{◌-◌, ◌*◌}
+use Prim.Native.Nat.{◌*◌}
 use Rattle.direct_sum.proofs.Filling.{Filling}
 use Rattle.intersection.specs.Kron.{crossed}
 use Rattle.intersection.proofs.cross_block.Given as goal

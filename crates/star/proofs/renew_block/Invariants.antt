@@ -1,5 +1,4 @@
 -- `renew_block`: the first k rows are renewed, the others are as they were; the last row stored is that of the new state.
-use Prim.Native.Nat.{◌-◌}
 use Rattle.rows.specs.Row.{mask}
 use Rattle.rows.specs.Table.{at}
 use Rattle.direct_sum.specs.Filled.{Changed}

@@ -1,5 +1,5 @@
 -- `renew_rows`: the rows of the letters below l are renewed.
-use Prim.Native.Nat.{◌+◌, ◌-◌}
+use Prim.Native.Nat.{◌+◌}
 use Rattle.rows.specs.Row.{mask}
 use Rattle.rows.specs.Table.{at}
 use Rattle.direct_sum.specs.Filled.{ChangedUpTo}
