@@ -11,7 +11,7 @@ ghost use Rattle.kernels.specs.Products.{Products, Put};
 use rows::{Row, Table};
 
 // The row x times the matrices in N blocks, block l[k] for row k, in one pass over the bits of x.
-pub fn times<const N: usize>(t: &Table, l: [usize; N], x: Row) -> [Row; N]
+pub fn times_each<const N: usize>(t: &Table, l: [usize; N], x: Row) -> [Row; N]
     requires { (N ≤ blocks) × All (λ b. b < blocks) l }
     ensures { (k n : ℕ) → k < N → mask x < 2 ^ n → mask_at result k ≡ product n (mask x) (at t.now (get_or l.entry k 0)) }
 {
@@ -43,12 +43,12 @@ pub fn times_all(t: &Table, a: usize, x: Row, s: &mut Line)
     ensures { (n : ℕ) → mask x < 2 ^ n → Products a n (mask x) (at t.now) s.new }
 {
     if a <= 2 {
-        put_all(s, 0, times(t, [0, 1], x));
+        put_all(s, 0, times_each(t, [0, 1], x));
         return;
     }
-    put_all(s, 0, times(t, [0, 1, 2, 3], x));
+    put_all(s, 0, times_each(t, [0, 1, 2, 3], x));
     if 4 < a {
-        put_all(s, 4, times(t, [4, 5, 6, 7], x));
+        put_all(s, 4, times_each(t, [4, 5, 6, 7], x));
     }
 }
 
