@@ -35,10 +35,13 @@ minimal_bytes_lem bs good =
       states_encode a (minimal_of a A) ∙ minimal_states a A,
     )
 
+same_answer : {x y : Minimised} → ◌≡◌ {A = Result Minimised Refusal} (Ok x) (Ok y) → x ≡ y
+same_answer e = cc
+
 -- An answer that grants tells what was written.
 granted : (o : Outcome) (n d dim : ℕ) → minimised_as dim (answer_of o) ≡ Ok (minimised n d) → (out : List ℕ) × (o ≡ wrote out) × (n ≡ length out) × (d ≡ dim)
 granted (refused rule which place) n d dim e = let z : ◌≡◌ {A = ℕ} 0 1 = cc in absurd (omega arith)
-granted (wrote out) n d dim e = (out, refl, cc, cc)
+granted (wrote out) n d dim e = let q = sym (same_answer e) in (out, refl, ap (λ m. m.length) q, ap (λ m. m.dimension) q)
 
 -- What a granted call leaves in the buffer is the minimal record: the claims follow from the answer and the buffer.
 pub minimal_claims : (bs buf exit : List ℕ) (r : Result Minimised Refusal) → r ≡ minimal_answer bs (length buf) → exit ≡ buffer_in (minimal_outcome bs) buf → GivesMinimal bs exit r
@@ -62,3 +65,13 @@ pub minimal_written : (bs : List ℕ) (room : ℕ) (t : List ℕ) (m : Machine) 
 unfolding minimal_outcome minimal_bytes
 minimal_written bs room t m good e M =
     rw good (ap (fit room) (sym (ap (λ a. encode a (automaton_in t m)) e ∙ fields_encode (letters_of bs) (automaton_in t m) (minimal_of (letters_of bs) (automaton_of bs)) M.same_fields)))
+
+-- The answer and the buffer, by what was written.
+pub minimal_given : (bs buf exit t : List ℕ) (m : Machine) (w : Result ℕ Refusal) → WellFormed bs → m.letters ≡ letters_of bs → Minimises (letters_of bs) (automaton_of bs) t m.states (mask m.initial) (mask m.finals)
+    → w ≡ answer_of (fit (length buf) (encode m.letters (automaton_in t m))) → exit ≡ buffer_of (fit (length buf) (encode m.letters (automaton_in t m))) buf
+    → (minimised_as m.states w ≡ minimal_answer bs (length buf)) × (exit ≡ buffer_in (minimal_outcome bs) buf)
+minimal_given bs buf exit t m w good e M answer buffer =
+    let o = sym (minimal_written bs (length buf) t m good e M) in (
+      ap (minimised_as m.states) (answer ∙ ap answer_of o) ∙ ap (λ d. minimised_as d (answer_of (minimal_outcome bs (length buf)))) M.dimension,
+      buffer ∙ ap (λ x. buffer_of x buf) o,
+    )
