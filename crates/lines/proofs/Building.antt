@@ -10,8 +10,8 @@ use Rattle.record.proofs.Stores.{sets_then, sets_front}
 use Rattle.text.specs.Text.{decimal, word_text}
 use Rattle.text.proofs.Decimal.{decimal_length}
 use Rattle.text.proofs.Words.{word_length}
-use Rattle.compare.specs.declared.Side.{Side}
-use Rattle.compare.specs.declared.Side.TheVariants.{First, Second}
+use Rattle.verdict.specs.declared.Side.{Side}
+use Rattle.verdict.specs.declared.Side.TheVariants.{First, Second}
 use Rattle.lines.specs.Lines.{opening, accepted_by, Begun, Begins}
 
 -- The first run, and one more.
