@@ -1,5 +1,5 @@
 -- What a reply of the comparison tells: the answer behind it, and which numbers it can have.
-use mathlib.Core.Path.{◌≡◌, refl, sym, subst}
+use mathlib.Core.Path.{◌≡◌, refl, sym, ap, subst}
 use mathlib.Core.Logic.{inl, inr}
 use mathlib.Core.List.{List, [], ◌∷◌, ◌++◌}
 use mathlib.Core.Option.{Option, none, some}
@@ -9,13 +9,14 @@ use Rattle.record.specs.Record.{automaton_of, language_of}
 use Rattle.record.specs.Outcome.{Outcome, refused, wrote}
 use Rattle.record.proofs.Numbers.{Among, fit_among}
 use Rattle.operands.proofs.Numbers.{pair_numbers, pair_among}
-use Rattle.compare.specs.Compare.{difference_of, word_outcome, compare_outcome, side_of, compared_as, compare_answer}
+use Rattle.std.specs.Prelude.{Ok, Some}
+use Rattle.record.specs.Rules.{refusal}
+use Rattle.verdict.specs.Side.{side_of}
+use Rattle.compare.specs.Compare.{Compared, difference_of, word_outcome, compare_outcome, differs, compared_as, compare_answer}
 use Rattle.verdict.specs.declared.Side.{Side}
 use Rattle.verdict.specs.declared.Side.TheVariants.{First, Second}
-use Rattle.compare.specs.declared.Compared.{Compared}
-use Rattle.compare.specs.declared.Compared.TheVariants.{Differs}
 use Rattle.replies.specs.Reply.{side_number, of_compared, verdict_in, compared_in}
-use Rattle.nxa.proofs.Granted.{not_zero, Readable}
+use Rattle.nxa.proofs.Granted.{refusal_readable, Readable}
 
 abbrev pub compare_numbers : List ℕ
 compare_numbers = pair_numbers ++ (12 ∷ [])
@@ -31,11 +32,11 @@ compare_among bs cs room = pair_among bs cs (word_outcome room (difference_of bs
 pub compared_readable : (bs cs : List ℕ) (room : ℕ) (m : Compared) → m ≡ compare_answer bs cs room → Readable of_compared compared_in compare_numbers m
 compared_readable bs cs room m e = subst (Readable of_compared compared_in compare_numbers) (sym e) (go (difference_of bs cs) (compare_outcome bs cs room) (compare_among bs cs room))
   where
-    side : (n : ℕ) (s : Side) → verdict_in (side_number s) n ≡ Differs n s
+    side : (n : ℕ) (s : Side) → verdict_in (side_number s) n ≡ Some (differs n s)
     side n First = refl
     side n Second = refl
 
     go : (d : Option (List ℕ)) (o : Outcome) → Among compare_numbers o → Readable of_compared compared_in compare_numbers (compared_as d (automaton_of bs) o)
-    go d (refused number which place) h = (rw (not_zero compare_numbers number refl h), inr h)
+    go d (refused rule which place) h = (refusal_readable compare_numbers refl _ (refusal rule which place) h, inr h)
     go none (wrote out) h = (refl, inl refl)
-    go (some w) (wrote out) h = (side (length w) (side_of (language_of bs w)), inl refl)
+    go (some w) (wrote out) h = (ap Ok (side (length w) (side_of (language_of bs w))), inl refl)

@@ -8,6 +8,7 @@ use Rattle.automata.specs.MinimalOf.{dimension_of}
 use Rattle.automata.specs.Operations.{sum_of, meet_of, complement_of, mirror_of, concatenation_of, star_of}
 use Rattle.automata.proofs.Dimension.{dimension_least}
 use Rattle.record.specs.Record.{letters_of, automaton_of, language_of}
+use Rattle.record.specs.declared.Rule.TheVariants.{Product, EmptyWord}
 use Rattle.record.proofs.Refusals.{good_check}
 use Rattle.record.proofs.Numbers.{check_numbers, Among, row_among, checked_among}
 use Rattle.operands.proofs.Numbers.{pair_numbers, pair_among}
@@ -42,7 +43,7 @@ unfolding meet_outcome
 meet_among bs cs room =
     let d = dimension_of (letters_of bs) (automaton_of bs) * dimension_of (letters_of bs) (automaton_of cs) in
     pair_among bs cs _ (10 ∷ result_numbers)
-    (row_among (ltb max_product d) 10 0 d _ result_numbers (result_among (letters_of bs) (meet_of (automaton_of bs) (automaton_of cs)) room))
+    (row_among (ltb max_product d) Product 0 d _ result_numbers (result_among (letters_of bs) (meet_of (automaton_of bs) (automaton_of cs)) room))
 
 abbrev pub complement_numbers : List ℕ
 complement_numbers = check_numbers ++ result_numbers
@@ -70,4 +71,4 @@ pub star_among : (bs : List ℕ) (room : ℕ) → Among star_numbers (star_outco
 unfolding star_outcome
 star_among bs room =
     checked_among bs 1 _ (14 ∷ result_numbers)
-    (λ good. row_among (language_of bs []) 14 1 0 _ result_numbers (result_among (letters_of bs) (star_of (automaton_of bs)) room))
+    (λ good. row_among (language_of bs []) EmptyWord 1 0 _ result_numbers (result_among (letters_of bs) (star_of (automaton_of bs)) room))

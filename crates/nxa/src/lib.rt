@@ -27,7 +27,7 @@ pub extern "C" fn nxa_check(record: &[u8]) -> Reply
     ensures numbers { NumberIn (0 ∷ 1 ∷ 2 ∷ 3 ∷ 4 ∷ 5 ∷ 6 ∷ 7 ∷ []) result }
     ensures granted { (result.number ≡ 0 → WellFormed «record».now) × (WellFormed «record».now → result.number ≡ 0) }
 {
-    replies::of_checked(record::check(record))
+    Reply::from(record::check(record))
 }
 
 // Reads a record into its fields and writes it afresh.
@@ -37,7 +37,7 @@ pub extern "C" fn nxa_rewrite(record: &[u8], out: &mut [u8]) -> Reply
     ensures numbers { NumberIn (0 ∷ 1 ∷ 2 ∷ 3 ∷ 4 ∷ 5 ∷ 6 ∷ 7 ∷ 12 ∷ []) result }
     ensures buffer { out.new ≡ buffer_in (rewrite_of «record».now) out.old }
 {
-    replies::of_written(codec::rewrite(record, out))
+    Reply::from(codec::rewrite(record, out))
 }
 
 // Tests a word. Value 1: the record accepts it. `claims`: number 0 and value 1 come exactly where the record is well formed, every letter of
@@ -48,7 +48,7 @@ pub extern "C" fn nxa_test(record: &[u8], word: &[u8]) -> Reply
     ensures numbers { NumberIn (0 ∷ 1 ∷ 2 ∷ 3 ∷ 4 ∷ 5 ∷ 6 ∷ 7 ∷ []) result }
     ensures claims { Tests «record».now word.now (tested_in result) }
 {
-    replies::of_tested(testing::test(record, word))
+    Reply::from(testing::test(record, word))
 }
 
 // Writes the minimal record of a record. `claims`: where number is 0, the first `length` bytes of the buffer are the minimal record of the
@@ -60,7 +60,7 @@ pub extern "C" fn nxa_minimal(record: &[u8], out: &mut [u8]) -> Reply
     ensures buffer { out.new ≡ buffer_in (minimal_outcome «record».now) out.old }
     ensures claims { GivesMinimal «record».now out.new (minimised_in result) }
 {
-    replies::of_minimised(minimal::minimal(record, out))
+    Reply::from(minimal::minimal(record, out))
 }
 
 // Compares two records and writes the first word that just one accepts. Of two records, here and below, a second one of 0 bytes is a blank,
@@ -76,7 +76,7 @@ pub extern "C" fn nxa_compare(first: &[u8], second: &[u8], word: &mut [u8]) -> R
     ensures buffer { word.new ≡ buffer_in (as_meant compare_outcome first.now second.now) word.old }
     ensures claims { as_meant Compares first.now second.now word.old word.new (compared_in result) }
 {
-    replies::of_compared(compare::compare(first, second, word))
+    Reply::from(compare::compare(first, second, word))
 }
 
 // Writes the minimal record of the words that just one of two records accepts. `claims`, of every operation: where number is 0, the first
@@ -89,7 +89,7 @@ pub extern "C" fn nxa_sum(first: &[u8], second: &[u8], out: &mut [u8]) -> Reply
     ensures buffer { out.new ≡ buffer_in (as_meant sum_outcome first.now second.now) out.old }
     ensures claims { as_meant Sums first.now second.now out.new (written_in result) }
 {
-    replies::of_written(operations::sum(first, second, out))
+    Reply::from(operations::sum(first, second, out))
 }
 
 // Writes the minimal record of the words that both records accept. `claims`: as for the sum; besides, refusal 10 comes exactly where the
@@ -101,7 +101,7 @@ pub extern "C" fn nxa_meet(first: &[u8], second: &[u8], out: &mut [u8]) -> Reply
     ensures buffer { out.new ≡ buffer_in (as_meant meet_outcome first.now second.now) out.old }
     ensures claims { as_meant Meets first.now second.now out.new (written_in result) }
 {
-    replies::of_written(intersection::meet(first, second, out))
+    Reply::from(intersection::meet(first, second, out))
 }
 
 // Writes the minimal record of the words that have an odd number of cuts into a word of the first record and then a word of the second.
@@ -113,7 +113,7 @@ pub extern "C" fn nxa_product(first: &[u8], second: &[u8], out: &mut [u8]) -> Re
     ensures buffer { out.new ≡ buffer_in (as_meant product_outcome first.now second.now) out.old }
     ensures claims { as_meant GivesProduct first.now second.now out.new (written_in result) }
 {
-    replies::of_written(operations::product(first, second, out))
+    Reply::from(operations::product(first, second, out))
 }
 
 // Writes the minimal record of the words over the record's letters that it does not accept.
@@ -124,7 +124,7 @@ pub extern "C" fn nxa_complement(record: &[u8], out: &mut [u8]) -> Reply
     ensures buffer { out.new ≡ buffer_in (complement_outcome «record».now) out.old }
     ensures claims { Complements «record».now out.new (written_in result) }
 {
-    replies::of_written(operations::complement(record, out))
+    Reply::from(operations::complement(record, out))
 }
 
 // Writes the minimal record of the reversed words.
@@ -135,7 +135,7 @@ pub extern "C" fn nxa_mirror(record: &[u8], out: &mut [u8]) -> Reply
     ensures buffer { out.new ≡ buffer_in (mirror_outcome «record».now) out.old }
     ensures claims { Mirrors «record».now out.new (written_in result) }
 {
-    replies::of_written(operations::mirror(record, out))
+    Reply::from(operations::mirror(record, out))
 }
 
 // Writes the minimal record of the words that have an odd number of cuts into words of the record; the empty word has one, into none.
@@ -147,7 +147,7 @@ pub extern "C" fn nxa_star(record: &[u8], out: &mut [u8]) -> Reply
     ensures buffer { out.new ≡ buffer_in (star_outcome «record».now) out.old }
     ensures claims { GivesStar «record».now out.new (written_in result) }
 {
-    replies::of_written(star::star(record, out))
+    Reply::from(star::star(record, out))
 }
 
 // Gives out a record of the catalogue by its number. `claims`: where the reply's number is 0, the first `length` bytes of the buffer are the
@@ -159,7 +159,7 @@ pub extern "C" fn nxa_catalogue(number: usize, out: &mut [u8]) -> Reply
     ensures buffer { out.new ≡ buffer_in (catalogue_of number) out.old }
     ensures claims { GivesEntry number out.new (written_in result) }
 {
-    replies::of_written(catalogue::give(number, out))
+    Reply::from(catalogue::give(number, out))
 }
 
 // Writes the line of a script's record by its index, or no bytes where marking ends before it, as it does at once for a script of 0 bytes;
@@ -178,5 +178,5 @@ pub extern "C" fn nxa_mark(script: &[u8], index: usize, out: &mut [u8]) -> Reply
     ensures claims { Marks script.now index out.new (written_in result) }
     ensures refusals { SaysRefused (1 ∷ 2 ∷ 3 ∷ 4 ∷ 5 ∷ 6 ∷ 7 ∷ 8 ∷ []) out.new (written_in result) }
 {
-    replies::of_written(marking::mark(script, index, out))
+    Reply::from(marking::mark(script, index, out))
 }

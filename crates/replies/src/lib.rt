@@ -2,12 +2,11 @@
 #![tactic(auto)]
 
 ghost use Rattle.std.specs.Prelude.{◌≡◌};
-ghost use Rattle.replies.specs.Reply.{reply, refusal, of_checked, of_written, of_tested, of_minimised, side_number, of_compared};
+ghost use Rattle.replies.specs.Reply.{reply, of_refusal, of_checked, of_written, of_tested, of_minimised, of_compared};
 
-use compare::{Compared, Side};
+use compare::Difference;
 use minimal::Minimised;
-use record::{Checked, Written};
-use testing::Tested;
+use record::{Fault, Refusal};
 
 // A reply: number 0 grants, any other is the refusal's. What a service has no use for is 0.
 #[repr(C)]
@@ -28,98 +27,83 @@ fn grant(length: usize, value: usize) -> Reply
         number: 0,
         record: 0,
         place: 0,
-        length: length,
-        value: value,
+        length,
+        value,
     }
 }
 
-// A service that is refused.
-fn refuse(number: usize, record: usize, place: usize) -> Reply
-    ensures { result ≡ refusal number «record» place }
-{
-    Reply {
-        number: number,
-        record: record,
-        place: place,
-        length: 0,
-        value: 0,
+// The reply of a service that is refused.
+impl From<Refusal> for Reply {
+    ghost from_gives = { λ r x. x ≡ of_refusal r };
+
+    fn from(r: Refusal) -> Reply {
+        Reply {
+            number: r.rule.number(),
+            record: r.record,
+            place: r.place,
+            length: 0,
+            value: 0,
+        }
     }
 }
 
 // The reply of the record check, which has one record.
-pub fn of_checked(c: Checked) -> Reply
-    ensures { result ≡ of_checked c }
-{
-    match c {
-        Checked::Good => grant(0, 0),
-        Checked::Refused { number, place } => refuse(number, 1, place),
+impl From<Result<(), Fault>> for Reply {
+    ghost from_gives = { λ c x. x ≡ of_checked c };
+
+    fn from(c: Result<(), Fault>) -> Reply {
+        match c {
+            Ok(()) => grant(0, 0),
+            Err(f) => Reply::from(f.rule.of(1, f.place)),
+        }
     }
 }
 
 // The reply of a service that writes.
-pub fn of_written(w: Written) -> Reply
-    ensures { result ≡ of_written w }
-{
-    match w {
-        Written::Done { length } => grant(length, 0),
-        Written::Refused {
-            number,
-            record,
-            place,
-        } => refuse(number, record, place),
+impl From<Result<usize, Refusal>> for Reply {
+    ghost from_gives = { λ w x. x ≡ of_written w };
+
+    fn from(w: Result<usize, Refusal>) -> Reply {
+        match w {
+            Ok(length) => grant(length, 0),
+            Err(r) => Reply::from(r),
+        }
     }
 }
 
 // The reply of the test of a word.
-pub fn of_tested(t: Tested) -> Reply
-    ensures { result ≡ of_tested t }
-{
-    match t {
-        Tested::Accepted => grant(0, 1),
-        Tested::Rejected => grant(0, 0),
-        Tested::Refused {
-            number,
-            record,
-            place,
-        } => refuse(number, record, place),
+impl From<Result<bool, Refusal>> for Reply {
+    ghost from_gives = { λ t x. x ≡ of_tested t };
+
+    fn from(t: Result<bool, Refusal>) -> Reply {
+        match t {
+            Ok(accepted) => grant(0, usize::from(accepted)),
+            Err(r) => Reply::from(r),
+        }
     }
 }
 
 // The reply of the minimal service.
-pub fn of_minimised(m: Minimised) -> Reply
-    ensures { result ≡ of_minimised m }
-{
-    match m {
-        Minimised::Done { length, dimension } => grant(length, dimension),
-        Minimised::Refused {
-            number,
-            record,
-            place,
-        } => refuse(number, record, place),
+impl From<Result<Minimised, Refusal>> for Reply {
+    ghost from_gives = { λ m x. x ≡ of_minimised m };
+
+    fn from(m: Result<Minimised, Refusal>) -> Reply {
+        match m {
+            Ok(minimal) => grant(minimal.length, minimal.dimension),
+            Err(r) => Reply::from(r),
+        }
     }
 }
 
-// The number of the record that a side names.
-fn side_number(s: Side) -> usize
-    ensures { result ≡ side_number s }
-{
-    match s {
-        Side::First => 1,
-        Side::Second => 2,
-    }
-}
+// The reply of a comparison: a side by the number of its record.
+impl From<Result<Option<Difference>, Refusal>> for Reply {
+    ghost from_gives = { λ c x. x ≡ of_compared c };
 
-// The reply of a comparison.
-pub fn of_compared(c: Compared) -> Reply
-    ensures { result ≡ of_compared c }
-{
-    match c {
-        Compared::Same => grant(0, 0),
-        Compared::Differs { length, side } => grant(length, side_number(side)),
-        Compared::Refused {
-            number,
-            record,
-            place,
-        } => refuse(number, record, place),
+    fn from(c: Result<Option<Difference>, Refusal>) -> Reply {
+        match c {
+            Ok(None) => grant(0, 0),
+            Ok(Some(d)) => grant(d.length, d.side as usize),
+            Err(r) => Reply::from(r),
+        }
     }
 }

@@ -30,10 +30,10 @@ pub fn paired(first: &[u8], second: &[u8]) -> Machine
     }
 }
 
-// Which of two records accepts a word.
+// Which of two records accepts a word, by the number of the record.
 #[derive(Clone, Copy, PartialEq, Eq)]
 pub enum Side {
-    First,
+    First = 1,
     Second,
 }
 

@@ -13,5 +13,5 @@ returns c =
     let buf = a.out.now in
     let w = c.give in
     let read = written_readable catalogue_numbers refl (catalogue_of a.number (length buf)) w.result (catalogue_among a.number (length buf)) w.ensures.answer in
-    let t = told of_written written_in catalogue_numbers w.result (answer_in (catalogue_of a.number) buf) c.of_written.result _ (GivesEntry a.number w.new.out) c.of_written.ensures read (w.ensures.answer, (w.ensures.buffer, w.ensures.claims)) in
+    let t = told of_written written_in catalogue_numbers w.result (answer_in (catalogue_of a.number) buf) c.from.result _ (GivesEntry a.number w.new.out) c.from.ensures read (w.ensures.answer, (w.ensures.buffer, w.ensures.claims)) in
     record { reply = t.0; numbers = t.1.0; buffer = t.1.1.0; claims = t.1.1.1 }

@@ -7,9 +7,9 @@ use Rattle.nxa.proofs.nxa_check.Goals as goal
 pub returns : goal.returns
 returns c =
     let bs = c.args.«record».now in
-    let told = c.of_checked.ensures ∙ ap of_checked c.check.ensures in
+    let told = c.from.ensures ∙ ap of_checked c.check.ensures in
     record {
       reply = told;
-      numbers = check_number bs c.of_checked.result told;
-      granted = (check_granted bs c.of_checked.result told, check_grants bs c.of_checked.result told);
+      numbers = check_number bs c.from.result told;
+      granted = (check_granted bs c.from.result told, check_grants bs c.from.result told);
     }

@@ -16,5 +16,5 @@ returns c =
     let buf = a.word.now in
     let m = c.compare in
     let read = compared_readable bs cs (length buf) m.result m.ensures.answer in
-    let t = told of_compared compared_in compare_numbers m.result (compare_answer bs cs (length buf)) c.of_compared.result _ (Compares bs cs buf m.new.word) c.of_compared.ensures read (m.ensures.answer, (m.ensures.buffer, m.ensures.claims)) in
+    let t = told of_compared compared_in compare_numbers m.result (compare_answer bs cs (length buf)) c.from.result _ (Compares bs cs buf m.new.word) c.from.ensures read (m.ensures.answer, (m.ensures.buffer, m.ensures.claims)) in
     record { reply = t.0; numbers = t.1.0; buffer = t.1.1.0; claims = t.1.1.1 }

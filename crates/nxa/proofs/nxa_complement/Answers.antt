@@ -15,5 +15,5 @@ returns c =
     let buf = a.out.now in
     let w = c.complement in
     let read = written_readable complement_numbers refl (complement_outcome bs (length buf)) w.result (complement_among bs (length buf)) w.ensures.answer in
-    let t = told of_written written_in complement_numbers w.result (answer_in (complement_outcome bs) buf) c.of_written.result _ (Complements bs w.new.out) c.of_written.ensures read (w.ensures.answer, (w.ensures.buffer, w.ensures.claims)) in
+    let t = told of_written written_in complement_numbers w.result (answer_in (complement_outcome bs) buf) c.from.result _ (Complements bs w.new.out) c.from.ensures read (w.ensures.answer, (w.ensures.buffer, w.ensures.claims)) in
     record { reply = t.0; numbers = t.1.0; buffer = t.1.1.0; claims = t.1.1.1 }

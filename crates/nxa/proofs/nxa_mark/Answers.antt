@@ -19,5 +19,5 @@ returns c =
     let buf = a.out.now in
     let w = c.mark in
     let read = written_readable mark_numbers refl (mark_outcome s i (length buf)) w.result (mark_among s i (length buf)) w.ensures.answer in
-    let t = told of_written written_in mark_numbers w.result (answer_in (mark_outcome s i) buf) c.of_written.result _ (λ x. (length (mark_line s i) ≤ longest) × (Marks s i w.new.out x × SaysRefused pair_numbers w.new.out x)) c.of_written.ensures read (w.ensures.answer, (w.ensures.buffer, (w.ensures.room, (w.ensures.claims, w.ensures.refusals)))) in
+    let t = told of_written written_in mark_numbers w.result (answer_in (mark_outcome s i) buf) c.from.result _ (λ x. (length (mark_line s i) ≤ longest) × (Marks s i w.new.out x × SaysRefused pair_numbers w.new.out x)) c.from.ensures read (w.ensures.answer, (w.ensures.buffer, (w.ensures.room, (w.ensures.claims, w.ensures.refusals)))) in
     record { reply = t.0; numbers = t.1.0; buffer = t.1.1.0; room = t.1.1.1.0; claims = t.1.1.1.1.0; refusals = t.1.1.1.1.1 }

@@ -18,5 +18,5 @@ returns c =
     let buf = a.out.now in
     let w = c.meet in
     let read = written_readable meet_numbers refl (meet_outcome bs cs (length buf)) w.result (meet_among bs cs (length buf)) w.ensures.answer in
-    let t = told of_written written_in meet_numbers w.result (answer_in (meet_outcome bs cs) buf) c.of_written.result _ (Meets bs cs w.new.out) c.of_written.ensures read (w.ensures.answer, (w.ensures.buffer, w.ensures.claims)) in
+    let t = told of_written written_in meet_numbers w.result (answer_in (meet_outcome bs cs) buf) c.from.result _ (Meets bs cs w.new.out) c.from.ensures read (w.ensures.answer, (w.ensures.buffer, w.ensures.claims)) in
     record { reply = t.0; numbers = t.1.0; buffer = t.1.1.0; claims = t.1.1.1 }

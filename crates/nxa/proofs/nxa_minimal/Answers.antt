@@ -15,5 +15,5 @@ returns c =
     let room = length a.out.now in
     let m = c.minimal in
     let read = minimised_readable minimal_numbers refl (minimal_outcome bs room) (dimension_of (letters_of bs) (automaton_of bs)) m.result (minimal_among bs room) m.ensures.answer in
-    let t = told of_minimised minimised_in minimal_numbers m.result (minimal_answer bs room) c.of_minimised.result _ (GivesMinimal bs m.new.out) c.of_minimised.ensures read (m.ensures.answer, (m.ensures.buffer, m.ensures.claims)) in
+    let t = told of_minimised minimised_in minimal_numbers m.result (minimal_answer bs room) c.from.result _ (GivesMinimal bs m.new.out) c.from.ensures read (m.ensures.answer, (m.ensures.buffer, m.ensures.claims)) in
     record { reply = t.0; numbers = t.1.0; buffer = t.1.1.0; claims = t.1.1.1 }

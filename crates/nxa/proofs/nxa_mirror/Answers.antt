@@ -15,5 +15,5 @@ returns c =
     let buf = a.out.now in
     let w = c.mirror in
     let read = written_readable mirror_numbers refl (mirror_outcome bs (length buf)) w.result (mirror_among bs (length buf)) w.ensures.answer in
-    let t = told of_written written_in mirror_numbers w.result (answer_in (mirror_outcome bs) buf) c.of_written.result _ (Mirrors bs w.new.out) c.of_written.ensures read (w.ensures.answer, (w.ensures.buffer, w.ensures.claims)) in
+    let t = told of_written written_in mirror_numbers w.result (answer_in (mirror_outcome bs) buf) c.from.result _ (Mirrors bs w.new.out) c.from.ensures read (w.ensures.answer, (w.ensures.buffer, w.ensures.claims)) in
     record { reply = t.0; numbers = t.1.0; buffer = t.1.1.0; claims = t.1.1.1 }

@@ -18,5 +18,5 @@ returns c =
     let buf = a.out.now in
     let w = c.product in
     let read = written_readable product_numbers refl (product_outcome bs cs (length buf)) w.result (product_among bs cs (length buf)) w.ensures.answer in
-    let t = told of_written written_in product_numbers w.result (answer_in (product_outcome bs cs) buf) c.of_written.result _ (GivesProduct bs cs w.new.out) c.of_written.ensures read (w.ensures.answer, (w.ensures.buffer, w.ensures.claims)) in
+    let t = told of_written written_in product_numbers w.result (answer_in (product_outcome bs cs) buf) c.from.result _ (GivesProduct bs cs w.new.out) c.from.ensures read (w.ensures.answer, (w.ensures.buffer, w.ensures.claims)) in
     record { reply = t.0; numbers = t.1.0; buffer = t.1.1.0; claims = t.1.1.1 }

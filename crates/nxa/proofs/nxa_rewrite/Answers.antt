@@ -14,5 +14,5 @@ returns c =
     let buf = a.out.now in
     let w = c.rewrite in
     let read = written_readable rewrite_numbers refl (rewrite_of bs (length buf)) w.result (rewrite_among bs (length buf)) w.ensures.answer in
-    let t = told of_written written_in rewrite_numbers w.result (answer_in (rewrite_of bs) buf) c.of_written.result _ (λ x. Unit {0}) c.of_written.ensures read (w.ensures.answer, (w.ensures.buffer, tt)) in
+    let t = told of_written written_in rewrite_numbers w.result (answer_in (rewrite_of bs) buf) c.from.result _ (λ x. Unit {0}) c.from.ensures read (w.ensures.answer, (w.ensures.buffer, tt)) in
     record { reply = t.0; numbers = t.1.0; buffer = t.1.1.0 }

@@ -12,5 +12,5 @@ returns c =
     let bs = a.«record».now in
     let w = a.word.now in
     let x = c.test in
-    let t = told of_tested tested_in check_numbers x.result (test_of bs w) c.of_tested.result (Unit {0}) (Tests bs w) c.of_tested.ensures (tested_readable bs w x.result x.ensures.answer) (x.ensures.answer, (tt, x.ensures.claims)) in
+    let t = told of_tested tested_in check_numbers x.result (test_of bs w) c.from.result (Unit {0}) (Tests bs w) c.from.ensures (tested_readable bs w x.result x.ensures.answer) (x.ensures.answer, (tt, x.ensures.claims)) in
     record { reply = t.0; numbers = t.1.0; claims = t.1.1.1 }
