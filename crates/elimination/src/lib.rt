@@ -115,7 +115,7 @@ pub struct Spot {
     pub size: Size,
 }
 
-// The same with coefficients: which of the rows found make y.
+// The same with coefficients: which of the rows found make y. One function for both would ask at each step whether coefficients are kept.
 pub fn place(b: &mut [u64], stride: usize, n: usize, s: Size, y: Row) -> Spot
     requires { (n ≤ width) × (n ≤ stride) × Room stride b.old × (mask y < 2 ^ n) × BasisIn stride n s.count (mask s.pivots) (bits stride b.old 2) b.old × Covered stride s.count (mask s.used) b.old }
     ensures { Placed stride n s.count (mask s.pivots) (mask s.used) (mask y) (bits stride b.old 2) (bits stride b.new 2) (bit_of (mask result.row)) b.old b.new result.size.count (mask result.size.pivots) (mask result.size.used) }

@@ -15,14 +15,14 @@
 --   Complements bs exit r
 --   Mirrors bs exit r
 --   Operates op bs exit r        the same of an operation on one language
-use Rattle.std.specs.Prelude.{List, ℕ}
+use Rattle.std.specs.Prelude.{List, ℕ, Result}
 use Rattle.automata.specs.Automaton.{Automaton}
 use Rattle.automata.specs.Language.{Language, symmetric_difference, complement, reversal}
 use Rattle.automata.specs.Cuts.{concatenation}
 use Rattle.automata.specs.Operations.{sum_of, complement_of, mirror_of, concatenation_of}
 use Rattle.record.specs.Record.{letters_of, check_of, WellFormed, automaton_of, language_of}
 use Rattle.record.specs.Outcome.{Outcome, checked}
-use Rattle.record.specs.declared.Written.{Written}
+use Rattle.record.specs.declared.Refusal.{Refusal}
 use Rattle.record.specs.Claims.{Operands}
 use Rattle.operands.specs.Operands.{pair_of, after_pair}
 use Rattle.results.specs.Results.{result_of, Gives}
@@ -53,28 +53,28 @@ abbrev pub sum_words : List ℕ → List ℕ → Language
 sum_words bs cs = symmetric_difference (language_of bs) (language_of cs)
 
 -- The minimal record of the words that just one of the two accepts.
-abbrev pub Sums : List ℕ → List ℕ → List ℕ → Written → Type 0
+abbrev pub Sums : List ℕ → List ℕ → List ℕ → Result ℕ Refusal → Type 0
 Sums bs cs exit r = Gives (letters_of bs) (sum_words bs cs) (Operands bs cs) exit r
 
 abbrev pub product_words : List ℕ → List ℕ → Language
 product_words bs cs = concatenation (language_of bs) (language_of cs)
 
 -- The minimal record of the words with an odd number of cuts into a word of the first and then a word of the second.
-abbrev pub GivesProduct : List ℕ → List ℕ → List ℕ → Written → Type 0
+abbrev pub GivesProduct : List ℕ → List ℕ → List ℕ → Result ℕ Refusal → Type 0
 GivesProduct bs cs exit r = Gives (letters_of bs) (product_words bs cs) (Operands bs cs) exit r
 
 -- The same of any operation on two languages, for the functions that sum and product share.
-abbrev pub Combines : (Language → Language → Language) → List ℕ → List ℕ → List ℕ → Written → Type 0
+abbrev pub Combines : (Language → Language → Language) → List ℕ → List ℕ → List ℕ → Result ℕ Refusal → Type 0
 Combines op bs cs exit r = Gives (letters_of bs) (op (language_of bs) (language_of cs)) (Operands bs cs) exit r
 
 -- The minimal record of the words over the letters that the record does not accept.
-abbrev pub Complements : List ℕ → List ℕ → Written → Type 0
+abbrev pub Complements : List ℕ → List ℕ → Result ℕ Refusal → Type 0
 Complements bs exit r = Gives (letters_of bs) (complement (language_of bs)) (WellFormed bs) exit r
 
 -- The minimal record of the reversed words.
-abbrev pub Mirrors : List ℕ → List ℕ → Written → Type 0
+abbrev pub Mirrors : List ℕ → List ℕ → Result ℕ Refusal → Type 0
 Mirrors bs exit r = Gives (letters_of bs) (reversal (language_of bs)) (WellFormed bs) exit r
 
 -- The same of any operation on a language, for the function that complement and mirror share.
-abbrev pub Operates : (Language → Language) → List ℕ → List ℕ → Written → Type 0
+abbrev pub Operates : (Language → Language) → List ℕ → List ℕ → Result ℕ Refusal → Type 0
 Operates op bs exit r = Gives (letters_of bs) (op (language_of bs)) (WellFormed bs) exit r

@@ -23,8 +23,8 @@ ghost use Rattle.operands.specs.Meant.{as_meant};
 ghost use Rattle.results.specs.Built.{held_words, Built};
 ghost use Rattle.operations.specs.Operations.{sum_outcome, product_outcome, binary_outcome, unary_outcome, complement_outcome, mirror_outcome, Sums, GivesProduct, Combines, Operates, Complements, Mirrors};
 
-use operands::{BLANK, Pair};
-use record::{Checked, Written};
+use operands::BLANK;
+use record::Refusal;
 use rows::{Machine, Row, Table};
 
 // An operation on two records, by the words of the result and by an automaton for them with the states of both. Sum and product share the
@@ -184,34 +184,19 @@ fn join_records<O: Binary>(first: &[u8], second: &[u8], s: &mut Table, u: &mut T
     O::join(s, g, u, h)
 }
 
-// An operation on two records as they are meant: each stands for itself.
-fn combine_meant<O: Binary>(first: &[u8], second: &[u8], out: &mut [u8]) -> Written
-    ensures answer { result ≡ answer_in (binary_outcome O.make first.now second.now) out.old }
-    ensures buffer { out.new ≡ buffer_in (binary_outcome O.make first.now second.now) out.old }
-    ensures claims { Combines O.words first.now second.now out.new result }
-{
-    let p = operands::check_pair(first, second);
-    let Pair::Both = p else {
-        return results::refuse(p);
-    };
-    let mut s = [0u64; 512];
-    let mut u = [0u64; 512];
-    let m = join_records::<O>(first, second, &mut s, &mut u);
-    results::finish(&mut s, m, &mut u, out)
-}
-
 // An operation on two records, the second of which may be a blank.
-fn combine<O: Binary>(first: &[u8], second: &[u8], out: &mut [u8]) -> Written
+fn combine<O: Binary>(first: &[u8], second: &[u8], out: &mut [u8]) -> Result<usize, Refusal>
     ensures answer { result ≡ answer_in (as_meant (binary_outcome O.make) first.now second.now) out.old }
     ensures buffer { out.new ≡ buffer_in (as_meant (binary_outcome O.make) first.now second.now) out.old }
     ensures claims { as_meant (Combines O.words) first.now second.now out.new result }
 {
-    if second.len() == 0 {
-        let mut b = [0u8; BLANK];
-        operands::blank(first, &mut b);
-        return combine_meant::<O>(first, &b, out);
-    }
-    combine_meant::<O>(first, second, out)
+    let mut room = [0; BLANK];
+    let right = operands::meant(first, second, &mut room);
+    operands::check_pair(first, right)?;
+    let mut s = [0u64; 512];
+    let mut u = [0u64; 512];
+    let m = join_records::<O>(first, right, &mut s, &mut u);
+    results::finish(&mut s, m, &mut u, out)
 }
 
 // Writes the minimal record of the words that just one of two records accepts; a second record of 0 bytes is a blank, the machine with no
@@ -219,7 +204,7 @@ fn combine<O: Binary>(first: &[u8], second: &[u8], out: &mut [u8]) -> Written
 // the result, with all that MinimalRecord (record/specs/Claims) says of it; refusal 11 comes exactly where the operands pass and the
 // dimension of the result is over 32, its place the dimension.
 #[tactic(auto, unfolding(crate::specs::Operations::sum_outcome))]
-pub fn sum(first: &[u8], second: &[u8], out: &mut [u8]) -> Written
+pub fn sum(first: &[u8], second: &[u8], out: &mut [u8]) -> Result<usize, Refusal>
     ensures answer { result ≡ answer_in (as_meant sum_outcome first.now second.now) out.old }
     ensures buffer { out.new ≡ buffer_in (as_meant sum_outcome first.now second.now) out.old }
     ensures claims { as_meant Sums first.now second.now out.new result }
@@ -230,7 +215,7 @@ pub fn sum(first: &[u8], second: &[u8], out: &mut [u8]) -> Written
 // Writes the minimal record of the words that have an odd number of cuts into a word of the first record and then a word of the second; a
 // second record of 0 bytes is a blank.
 #[tactic(auto, unfolding(crate::specs::Operations::product_outcome))]
-pub fn product(first: &[u8], second: &[u8], out: &mut [u8]) -> Written
+pub fn product(first: &[u8], second: &[u8], out: &mut [u8]) -> Result<usize, Refusal>
     ensures answer { result ≡ answer_in (as_meant product_outcome first.now second.now) out.old }
     ensures buffer { out.new ≡ buffer_in (as_meant product_outcome first.now second.now) out.old }
     ensures claims { as_meant GivesProduct first.now second.now out.new result }
@@ -239,15 +224,12 @@ pub fn product(first: &[u8], second: &[u8], out: &mut [u8]) -> Written
 }
 
 // An operation on one record.
-fn operate<O: Unary>(bytes: &[u8], out: &mut [u8]) -> Written
+fn operate<O: Unary>(bytes: &[u8], out: &mut [u8]) -> Result<usize, Refusal>
     ensures answer { result ≡ answer_in (unary_outcome O.make bytes.now) out.old }
     ensures buffer { out.new ≡ buffer_in (unary_outcome O.make bytes.now) out.old }
     ensures claims { Operates O.words bytes.now out.new result }
 {
-    let c = record::check(bytes);
-    let Checked::Good = c else {
-        return record::refused(c, 1);
-    };
+    record::check_as(bytes, 1)?;
     let mut s = [0u64; 512];
     let g = codec::read(bytes, &mut s);
     let m = O::build(&mut s, g);
@@ -256,7 +238,7 @@ fn operate<O: Unary>(bytes: &[u8], out: &mut [u8]) -> Written
 }
 
 // Writes the minimal record of the words over the record's letters that it does not accept.
-pub fn complement(bytes: &[u8], out: &mut [u8]) -> Written
+pub fn complement(bytes: &[u8], out: &mut [u8]) -> Result<usize, Refusal>
     ensures answer { result ≡ answer_in (complement_outcome bytes.now) out.old }
     ensures buffer { out.new ≡ buffer_in (complement_outcome bytes.now) out.old }
     ensures claims { Complements bytes.now out.new result }
@@ -265,7 +247,7 @@ pub fn complement(bytes: &[u8], out: &mut [u8]) -> Written
 }
 
 // Writes the minimal record of the reversed words.
-pub fn mirror(bytes: &[u8], out: &mut [u8]) -> Written
+pub fn mirror(bytes: &[u8], out: &mut [u8]) -> Result<usize, Refusal>
     ensures answer { result ≡ answer_in (mirror_outcome bytes.now) out.old }
     ensures buffer { out.new ≡ buffer_in (mirror_outcome bytes.now) out.old }
     ensures claims { Mirrors bytes.now out.new result }

@@ -62,8 +62,8 @@ fn stage(t: &mut Table, l: usize, w: usize, b: usize)
     }
 }
 
-// Stage b. Most runs are those of stages 0 to 2, of four rows at most: there b is a literal, so that the compiler makes no loop of
-// a run.
+// Stage b. Most runs are those of stages 0 to 2, of four rows at most: for speed b is a literal there, so that the compiler makes no
+// loop of a run.
 fn exchange(t: &mut Table, l: usize, w: usize, b: usize)
     requires { (l < blocks) × (w ≤ levels) × (b < w) }
     ensures { OnlyBlock l t.old t.new × HasRows l (2 ^ w) (exchanged b (row t.old l)) t.new }

@@ -8,7 +8,7 @@ pub clear-requires : goal.clear-requires
 clear-requires c =
     let l = c.lay-r in
     let a = c.args in
-    (omega arith, laid_le a.n (mask a.p) l.result a.b.now l.new.c l.ensures, c.requires.0)
+    (omega arith, omega (arith, laid_le a.n (mask a.p) l.result a.b.now l.new.c l.ensures), c.requires.0)
 
 pub transpose-requires : goal.transpose-requires
 transpose-requires c =

@@ -1,19 +1,34 @@
--- `combine`: both records as they are meant.
-use mathlib.Core.Path.{subst}
-use native.Mathlib.Omega.{arith}
+-- `combine`: the answer and the buffer by the checks and by the result, for the record that the second one stands for; the claims follow.
+use mathlib.Core.Path.{refl, sym}
 use Rattle.record.specs.Record.{letters_of}
-use Rattle.operands.proofs.MeantLaws.{meant_blank, meant_itself}
-use Rattle.operations.specs.Operations.{Combines}
+use Rattle.record.proofs.Refusals.{returned}
+use Rattle.operands.specs.Meant.{meant_over}
+use Rattle.operands.proofs.PairLaws.{both_passed, pair_refused}
+use Rattle.operations.proofs.OperationLaws.{binary_service}
 use Rattle.operations.proofs.combine.Goals as goal
 
-pub returns-then-second-eq0-clause-claims : goal.returns-then-second-eq0-clause-claims
-returns-then-second-eq0-clause-claims g c =
+pub returns-in_err-check_pair : goal.returns-in_err-check_pair
+returns-in_err-check_pair g c =
     let a = c.args in
-    let m = c.combine_meant in
-    subst (λ cs. Combines g.O.Binary.words a.first.now cs m.new.out m.result) (meant_blank (letters_of a.first.now) _ a.second.now (omega arith) c.blank.ensures) m.ensures.claims
+    let o = g.O.Binary in
+    let bs = a.first.now in
+    let cs = meant_over (letters_of bs) a.second.now in
+    let e = rw c.meant-right.ensures at c.in_err-check_pair.ensures in
+    let p = (binary_service o.words o.make g.met.O.Binary.accepted bs cs a.out.now).0 _ c.from_residual.result (pair_refused bs cs _ e) (returned c.from_residual.result c.from_residual.ensures.1) in
+    record { answer = p.0; buffer = p.1.0; claims = p.1.1 }
 
-pub returns-clause-claims : goal.returns-clause-claims
-returns-clause-claims g c =
+pub join_records-m-requires : goal.join_records-m-requires
+join_records-m-requires g c = (both_passed _ _ (sym c.in_ok-check_pair.ensures), refl, refl)
+
+pub returns : goal.returns
+returns g c =
     let a = c.args in
-    let m = c.combine_meant-2 in
-    subst (λ cs. Combines g.O.Binary.words a.first.now cs m.new.out m.result) (meant_itself (letters_of a.first.now) a.second.now (λ none. omega arith)) m.ensures.claims
+    let o = g.O.Binary in
+    let bs = a.first.now in
+    let cs = meant_over (letters_of bs) a.second.now in
+    let f = c.finish in
+    let m = c.join_records-m in
+    let passed = both_passed bs cs (sym (rw c.meant-right.ensures at c.in_ok-check_pair.ensures)) in
+    let built = rw c.meant-right.ensures at m.ensures.0 in
+    let p = (binary_service o.words o.make g.met.O.Binary.accepted bs cs a.out.now).1 m.new.s m.result f.new.out f.result passed built f.ensures.answer f.ensures.buffer in
+    record { answer = p.0; buffer = p.1.0; claims = p.1.1 }
