@@ -18,8 +18,8 @@ use Rattle.operands.specs.declared.Pair.TheVariants.{Both, Refused as Bad}
 use Rattle.operands.proofs.PairLaws.{both_pass, both_passed, pair_named}
 use Rattle.operands.proofs.MeantLaws.{as_blank}
 use Rattle.compare.specs.Compare.{difference_of, compare_outcome, side_of, acceptor_of, compare_answer, Differ, ShortWord, Withheld, Compares}
-use Rattle.compare.specs.declared.Side.{Side}
-use Rattle.compare.specs.declared.Side.TheVariants.{First, Second}
+use Rattle.verdict.specs.declared.Side.{Side}
+use Rattle.verdict.specs.declared.Side.TheVariants.{First, Second}
 use Rattle.compare.specs.declared.Compared.{Compared}
 use Rattle.compare.specs.declared.Compared.TheVariants.{Same as IsSame, Differs, Refused}
 use Rattle.compare.proofs.CompareLaws.{clash, word_answer, word_withheld, same_answer, Written, Kept, Case, case}

@@ -21,7 +21,7 @@ use Rattle.operands.specs.declared.Pair.{Pair}
 use Rattle.operands.specs.declared.Pair.TheVariants.{Both, Refused as Bad}
 use Rattle.operands.proofs.PairLaws.{both_passed}
 use Rattle.compare.specs.Compare.{difference_of, compare_outcome, side_of, compared_as, compare_answer, ShortWord}
-use Rattle.compare.specs.declared.Side.{Side}
+use Rattle.verdict.specs.declared.Side.{Side}
 use Rattle.compare.specs.declared.Compared.{Compared}
 use Rattle.compare.specs.declared.Compared.TheVariants.{Same as IsSame, Differs, Refused}
 

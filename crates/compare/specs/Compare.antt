@@ -9,7 +9,8 @@
 --   ShortWord bs cs n           n letters are at most 63, and fewer than the two dimensions added
 --   Withheld bs cs buf k        a first word of k letters that was not written, since the buffer is shorter
 --   Compares bs cs buf exit r   what is claimed of the answer r and the buffer at exit, over all words
-use Rattle.std.specs.Prelude.{◌≡◌, Bool, true, false, List, [], ℕ, ◌+◌, ◌<◌, ◌≤◌, length, take}
+pub use Rattle.verdict.specs.Side.{side_of}
+use Rattle.std.specs.Prelude.{◌≡◌, true, List, [], ℕ, ◌+◌, ◌<◌, ◌≤◌, length, take}
 use Rattle.std.proofs.Math.Option.{Option, none, some}
 use Rattle.automata.specs.Automaton.{Automaton, accepts}
 use Rattle.automata.specs.FirstDifference.{first_difference}
@@ -19,8 +20,8 @@ use Rattle.record.specs.Outcome.{Outcome, refused, wrote, fit}
 use Rattle.operands.specs.Operands.{pair_of, after_pair}
 use Rattle.operands.specs.declared.Pair.{Pair}
 use Rattle.operands.specs.declared.Pair.TheVariants.{Both, Refused as Bad}
-use Rattle.compare.specs.declared.Side.{Side}
-use Rattle.compare.specs.declared.Side.TheVariants.{First, Second}
+use Rattle.verdict.specs.declared.Side.{Side}
+use Rattle.verdict.specs.declared.Side.TheVariants.{First, Second}
 use Rattle.compare.specs.declared.Compared.{Compared}
 use Rattle.compare.specs.declared.Compared.TheVariants.{Same, Differs, Refused}
 
@@ -34,10 +35,6 @@ word_outcome room (some w) = fit room w
 
 unfoldable pub compare_outcome : List ℕ → List ℕ → ℕ → Outcome
 compare_outcome bs cs room = after_pair (pair_of bs cs) (word_outcome room (difference_of bs cs))
-
-abbrev pub side_of : Bool → Side
-side_of true = First
-side_of false = Second
 
 abbrev pub acceptor_of : Side → List ℕ → List ℕ → List ℕ
 acceptor_of First bs cs = bs

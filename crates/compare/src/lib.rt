@@ -5,17 +5,10 @@ ghost use Rattle.std.specs.Prelude.{◌≡◌, length};
 ghost use Rattle.record.specs.Outcome.{buffer_in};
 ghost use Rattle.operands.specs.Meant.{as_meant};
 ghost use Rattle.operands.specs.Operands.{pair_of};
-ghost use Rattle.compare.specs.Compare.{compare_outcome, compare_answer, side_of, compared_refusal, Compares};
+ghost use Rattle.compare.specs.Compare.{compare_outcome, compare_answer, compared_refusal, Compares};
 
 use operands::{BLANK, Pair};
-use verdict::Verdict;
-
-// Which of two records accepts a word.
-#[derive(Clone, Copy)]
-pub enum Side {
-    First,
-    Second,
-}
+pub use verdict::Side;
 
 // What a comparison answers.
 #[derive(Clone, Copy)]
@@ -50,13 +43,6 @@ fn refuse(p: Pair) -> Compared
     }
 }
 
-// The first record where `first` holds, else the second.
-fn named_side(first: bool) -> Side
-    ensures { result ≡ side_of first }
-{
-    if first { Side::First } else { Side::Second }
-}
-
 // The answer for two well-formed records over the same letters; the word goes to the buffer.
 fn settle(first: &[u8], second: &[u8], word: &mut [u8]) -> Compared
     requires { pair_of first.now second.now ≡ Pair.Both }
@@ -65,15 +51,11 @@ fn settle(first: &[u8], second: &[u8], word: &mut [u8]) -> Compared
 {
     let mut w = [0u8; 128];
     let v = comparison::compare(&*first, &*second, &mut w);
-    let Verdict::Differs {
-        row,
-        first: by_first,
-    } = v
-    else {
+    let Some(apart) = v else {
         return Compared::Same;
     };
     let a = record::size(first[6]);
-    let n = trail::depth(&w, a, row);
+    let n = trail::depth(&w, a, apart.row);
     if word.len() < n {
         return Compared::Refused {
             number: 12,
@@ -81,9 +63,11 @@ fn settle(first: &[u8], second: &[u8], word: &mut [u8]) -> Compared
             place: n,
         };
     }
-    trail::trace(&w, a, row, n, word);
-    let s = named_side(by_first);
-    Compared::Differs { length: n, side: s }
+    trail::trace(&w, a, apart.row, n, word);
+    Compared::Differs {
+        length: n,
+        side: apart.side,
+    }
 }
 
 // The comparison of two records as they are meant: each stands for itself.

@@ -1,10 +1,10 @@
 -- Two records of at most two states together: a word of at most one letter tells their languages apart, if any does.
 use mathlib.Core.Path.{◌≡◌, sym, ap, subst, ◌∙◌}
-use mathlib.Core.Bool.{true, false}
+use mathlib.Core.Bool.{Bool, true, false}
 use mathlib.Core.List.{List, [], ◌∷◌, ◌++◌}
 use mathlib.Core.Logic.{inl, inr}
 use mathlib.Core.Option.{none, some}
-use Prim.Native.Nat.{ℕ, ◌+◌, ◌<◌, ◌≤◌}
+use Prim.Native.Nat.{ℕ, ◌+◌, ◌^◌, ◌<◌, ◌≤◌}
 use native.Mathlib.Omega.{arith}
 use lib.ListN.{length}
 use Rattle.automata.specs.Xor.{◌⊕◌}
@@ -29,7 +29,7 @@ use Rattle.verdict.specs.declared.Side.{Side}
 use Rattle.verdict.specs.Side.{side_of}
 use Rattle.verdict.specs.Judged.{Found}
 use Rattle.verdict.specs.Rows.{RowOf}
-use Rattle.verdict.proofs.RowLaws.{row_start, row_next, row_differs, row_first}
+use Rattle.verdict.proofs.RowLaws.{row_start, row_next, row_below, row_differs, row_first}
 
 -- ---- the trail of one letter
 
@@ -67,6 +67,10 @@ module _ (bs cs : List ℕ) (m : Machine) (P : Paired bs cs m) (empty : shared m
   module _ (l y : ℕ) (h : l < m.letters) (e : y ≡ product (states_of bs + states_of cs) (mask m.initial) (beside_of bs cs l)) where
     pub letter_row : RowOf bs cs (l ∷ []) y
     letter_row = row_next bs cs m P [] (mask m.initial) l y (row_start bs cs m P) h e
+
+    -- The parity of its row with the final column tells whether just one accepts it.
+    pub letter_told : (r t : Bool) → ((n : ℕ) → y < 2 ^ n → r ≡ shared n y (mask m.finals)) → r ≡ t → shared m.states y (mask m.finals) ≡ t
+    letter_told r t p q = sym (p m.states (row_below bs cs m P (l ∷ []) y letter_row)) ∙ q
 
     pub letter_tried : shared m.states y (mask m.finals) ≡ false → accepts A (l ∷ []) ⊕ accepts B (l ∷ []) ≡ false
     letter_tried t = row_differs bs cs m P (l ∷ []) y letter_row ∙ t
