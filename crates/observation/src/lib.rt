@@ -74,18 +74,6 @@ pub fn explore(t: &Table, m: Machine, b: &mut Basis) -> Size
     requires { Valid t.now m × (length b.old ≡ basis_size) }
     ensures { Explored m.letters t.now m.states (mask m.initial) (mask m.finals) b.new result.count (mask result.pivots) (mask result.used) }
 {
-    let i = m.initial;
-    let none = rows::none();
-    let s = elimination::insert(
-        b,
-        WIDEST,
-        m.states,
-        Size {
-            count: 0,
-            pivots: none,
-            used: none,
-        },
-        i,
-    );
+    let s = elimination::insert(b, WIDEST, m.states, Size::empty(), m.initial);
     explore_rows(t, m, b, s)
 }

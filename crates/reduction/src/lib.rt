@@ -177,18 +177,7 @@ pub fn reduce(t: &Table, m: Machine, b: &mut Basis, out: &mut Table, most: usize
     let n = m.states;
     let i = m.initial;
     let f = m.finals;
-    let none = rows::none();
-    let q = elimination::place(
-        b,
-        WIDEST,
-        n,
-        Size {
-            count: 0,
-            pivots: none,
-            used: none,
-        },
-        i,
-    );
+    let q = elimination::place(b, WIDEST, n, Size::empty(), i);
     let s = search(t, m, b, out, q.size, most);
     let d = s.count;
     let c = column(b, n, d, f);

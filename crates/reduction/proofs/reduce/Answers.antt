@@ -11,7 +11,7 @@ use Rattle.reduction.proofs.reduce.Goals as goal
 
 -- The basis was empty before the initial row.
 placed : (c : After-place-q) → Placed width c.args.m.states 0 0 0 (mask c.args.m.initial) (bits width c.args.b.now 2) (bits width c.place-q.new.b 2) (bit_of (mask c.place-q.result.row)) c.args.b.now c.place-q.new.b c.place-q.result.size.count (mask c.place-q.result.size.pivots) (mask c.place-q.result.size.used)
-placed c = rw c.none-none.ensures at c.place-q.ensures
+placed c = let e = c.empty.ensures in rw (e.0, e.1, e.2) at c.place-q.ensures
 
 pub search-s-requires : goal.search-s-requires
 search-s-requires c =
