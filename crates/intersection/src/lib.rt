@@ -4,7 +4,7 @@
 ghost use Rattle.std.specs.Prelude.{◌≡◌, ℕ, ◌+◌, ◌*◌, ◌^◌, ◌≤◌, ◌<◌, length};
 ghost use Rattle.automata.specs.Language.{intersection};
 ghost use Rattle.rows.specs.Row.{width, mask};
-ghost use Rattle.rows.specs.Table.{blocks, size, at};
+ghost use Rattle.rows.specs.Table.{blocks, at};
 ghost use Rattle.rows.specs.Machine.{Valid};
 ghost use Rattle.direct_sum.specs.Filled.{Filled};
 ghost use Rattle.record.specs.Outcome.{answer_in, buffer_in};
@@ -13,8 +13,8 @@ ghost use Rattle.results.specs.Built.{held_words, Built};
 ghost use Rattle.intersection.specs.Meet.{meet_outcome, Meets};
 ghost use Rattle.intersection.specs.Kron.{kron, crossed};
 
-use operands::{BLANK, Pair};
-use record::Written;
+use operands::BLANK;
+use record::{Refusal, Rule};
 use rows::{Machine, Row, Table};
 
 const MAX_PRODUCT: usize = 64;
@@ -25,13 +25,11 @@ fn kron(x: Row, y: Row, n: usize, m: usize) -> Row
     ensures { mask result ≡ kron n m (mask x) (mask y) }
 {
     let mut r = rows::none();
-    let mut p: usize = 0;
-    while p < n {
+    for p in 0..n {
         let z = rows::moved(y, p * m);
         let b = rows::has(x, p);
         let w = rows::when(b, z);
         r = rows::xor(r, w);
-        p += 1;
     }
     r
 }
@@ -42,31 +40,27 @@ fn cross_block(t: &Table, u: &Table, out: &mut Table, n: usize, m: usize, l: usi
     ensures { Filled (l + 1) (n * m) (crossed t.now u.now n m) out.new }
 {
     let d = n * m;
-    let mut k: usize = 0;
-    while k < d {
+    for k in 0..d {
         let x = rows::load(t, l, k / m);
         let y = rows::load(u, l, k % m);
         let r = kron(x, y, n, m);
         rows::store(out, l, k, r);
-        k += 1;
     }
 }
 
 // The rows of the product automaton: the Kronecker products of the matrices of each letter.
 fn cross(t: &Table, u: &Table, out: &mut Table, a: usize, n: usize, m: usize)
-    requires { (a ≤ blocks) × (n ≤ width) × (n * m ≤ width) × ((l j : ℕ) → l < a → j < m → at u.now l j < 2 ^ m) × (length out.old ≡ size) }
+    requires { (a ≤ blocks) × (n ≤ width) × (n * m ≤ width) × ((l j : ℕ) → l < a → j < m → at u.now l j < 2 ^ m) }
     ensures { Filled a (n * m) (crossed t.now u.now n m) out.new }
 {
-    let mut l: usize = 0;
-    while l < a {
+    for l in 0..a {
         cross_block(t, u, out, n, m, l);
-        l += 1;
     }
 }
 
 // The product automaton of two automata over the same letters, its rows in s.
 fn product(t: &Table, g: Machine, u: &Table, h: Machine, s: &mut Table) -> Machine
-    requires { Valid t.now g × Valid u.now h × (h.letters ≡ g.letters) × (g.states * h.states ≤ width) × (length s.old ≡ size) }
+    requires { Valid t.now g × Valid u.now h × (h.letters ≡ g.letters) × (g.states * h.states ≤ width) }
     ensures { Built g.letters (intersection (held_words t.now g) (held_words u.now h)) s.new result }
 {
     let n = g.states;
@@ -78,50 +72,31 @@ fn product(t: &Table, g: Machine, u: &Table, h: Machine, s: &mut Table) -> Machi
     Machine {
         states: n * m,
         letters: a,
-        initial: initial,
-        finals: finals,
+        initial,
+        finals,
     }
-}
-
-// The meet of two records as they are meant: each stands for itself.
-fn meet_meant(first: &[u8], second: &[u8], out: &mut [u8]) -> Written
-    ensures answer { result ≡ answer_in (meet_outcome first.now second.now) out.old }
-    ensures buffer { out.new ≡ buffer_in (meet_outcome first.now second.now) out.old }
-    ensures claims { Meets first.now second.now out.new result }
-{
-    let p = operands::check_pair(first, second);
-    let Pair::Both = p else {
-        return results::refuse(p);
-    };
-    let mut t = [0u64; 512];
-    let mut u = [0u64; 512];
-    let mut s = [0u64; 512];
-    let g = minimal::minimal_form(first, &mut t);
-    let h = minimal::minimal_form(second, &mut u);
-    let d = g.states * h.states;
-    if MAX_PRODUCT < d {
-        return Written::Refused {
-            number: 10,
-            record: 0,
-            place: d,
-        };
-    }
-    let m = product(&t, g, &u, h, &mut s);
-    results::finish(&mut s, m, &mut t, out)
 }
 
 // Writes the minimal record of the words that both records accept; a second record of 0 bytes is a blank, the machine with no states over
 // the first one's letters. `claims`: as for operations::sum; besides, refusal 10 comes exactly where the records pass and the product of
 // their dimensions is over 64, its place the product, and refusal 11 only where that product is not.
-pub fn meet(first: &[u8], second: &[u8], out: &mut [u8]) -> Written
+pub fn meet(first: &[u8], second: &[u8], out: &mut [u8]) -> Result<usize, Refusal>
     ensures answer { result ≡ answer_in (as_meant meet_outcome first.now second.now) out.old }
     ensures buffer { out.new ≡ buffer_in (as_meant meet_outcome first.now second.now) out.old }
     ensures claims { as_meant Meets first.now second.now out.new result }
 {
-    if second.len() == 0 {
-        let mut b = [0u8; BLANK];
-        operands::blank(first, &mut b);
-        return meet_meant(first, &b, out);
+    let mut room = [0; BLANK];
+    let right = operands::meant(first, second, &mut room);
+    operands::check_pair(first, right)?;
+    let mut t = [0u64; 512];
+    let mut u = [0u64; 512];
+    let mut s = [0u64; 512];
+    let g = minimal::minimal_form(first, &mut t);
+    let h = minimal::minimal_form(right, &mut u);
+    let d = g.states * h.states;
+    if MAX_PRODUCT < d {
+        return Err(Rule::Product.of(0, d));
     }
-    meet_meant(first, second, out)
+    let m = product(&t, g, &u, h, &mut s);
+    results::finish(&mut s, m, &mut t, out)
 }

@@ -12,8 +12,10 @@ use Rattle.record.specs.Outcome.{buffer_of}
 use Rattle.record.proofs.Refusals.{good_check}
 use Rattle.record.proofs.Outcome.{fit_short, fit_done}
 use Rattle.operands.proofs.PairLaws.{both_passed}
-use Rattle.compare.specs.Compare.{difference_of}
-use Rattle.compare.specs.declared.Compared.TheVariants.{Differs, Refused}
+use Rattle.std.specs.Prelude.{Ok, Err, Some}
+use Rattle.record.specs.Rules.{refusal}
+use Rattle.record.specs.declared.Rule.TheVariants.{NoRoom}
+use Rattle.compare.specs.Compare.{difference_of, differs}
 use Rattle.compare.proofs.CompareLaws.{outcome_same, outcome_word, word_answer, word_withheld, same_answer}
 use Rattle.compare.proofs.settle.Goals.{After-size-a, In-Some}
 use Rattle.compare.proofs.settle.Goals as goal
@@ -50,7 +52,7 @@ returns-then-word-n c =
     let a = c.args in
     let w = word_in c.compare-v.new.w c.in-Some.apart.row in
     let e = c.depth-n.ensures.0 in
-    let short : length a.word.now < length w = rw e at c.if-word-n.true in record { answer = ap (Refused 12 0) e ∙ sym (word_withheld a.first.now a.second.now (length a.word.now) c.requires w (difference (goal.at.returns-then-word-n c).In-Some) short); buffer = sym (ap (λ x. buffer_of x a.word.now) (outcome_word a.first.now a.second.now (length a.word.now) c.requires w (difference (goal.at.returns-then-word-n c).In-Some) ∙ fit_short (length a.word.now) w refl short)) }
+    let short : length a.word.now < length w = rw e at c.if-word-n.true in record { answer = ap Err (c.of.ensures ∙ ap (refusal NoRoom 0) e) ∙ sym (word_withheld a.first.now a.second.now (length a.word.now) c.requires w (difference (goal.at.returns-then-word-n c).In-Some) short); buffer = sym (ap (λ x. buffer_of x a.word.now) (outcome_word a.first.now a.second.now (length a.word.now) c.requires w (difference (goal.at.returns-then-word-n c).In-Some) ∙ fit_short (length a.word.now) w refl short)) }
 
 pub trace-requires : goal.trace-requires
 trace-requires c = (traced (goal.at.trace-requires c).After-size-a, c.depth-n.ensures.0, omega arith)
@@ -61,7 +63,7 @@ returns c =
     let w = word_in c.compare-v.new.w c.in-Some.apart.row in
     let e = c.depth-n.ensures.0 in
     let room : length w ≤ length a.word.now = rw e at c.if-word-n.false in record {
-      answer = ap₂ Differs e (found (goal.at.returns c).In-Some).side ∙ sym (word_answer a.first.now a.second.now (length a.word.now) c.requires w (difference (goal.at.returns c).In-Some) room);
+      answer = ap₂ (λ n s. Ok (Some (differs n s))) e (found (goal.at.returns c).In-Some).side ∙ sym (word_answer a.first.now a.second.now (length a.word.now) c.requires w (difference (goal.at.returns c).In-Some) room);
       buffer = c.trace.ensures ∙ ap (λ k. w ++ drop k a.word.now) e
           ∙ sym (ap (λ x. buffer_of x a.word.now) (outcome_word a.first.now a.second.now (length a.word.now) c.requires w (difference (goal.at.returns c).In-Some) ∙ fit_done (length a.word.now) w refl room));
     }
