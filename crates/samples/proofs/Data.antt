@@ -9,10 +9,7 @@ use lib.Dec.{eqb}
 use borrow.Author.Tests.{eqb-true}
 use Rattle.automata.proofs.Below.{up_to}
 use Rattle.automata.proofs.Span.{and_parts}
-use Rattle.record.specs.declared.Checked.{Checked}
-use Rattle.record.specs.declared.Checked.TheVariants.{Good, Refused as Bad}
-use Rattle.operands.specs.declared.Pair.{Pair}
-use Rattle.operands.specs.declared.Pair.TheVariants.{Both, Refused}
+use Rattle.std.specs.Prelude.{Result, Ok, Err}
 
 -- Every test of a list passes.
 abbrev pub every : List Bool → Bool
@@ -27,21 +24,14 @@ pub every_true : (bs : List Bool) → every bs ≡ true → Passed bs
 every_true [] e = tt
 every_true (b ∷ bs) e = let t = and_parts b (every bs) e in (t.0, every_true bs t.1)
 
-abbrev pub good : Checked → Bool
-good Good = true
-good (Bad number place) = false
+-- A check passes.
+abbrev pub passed : {E : Type 0} → Result (Unit {0}) E → Bool
+passed (Ok u) = true
+passed (Err e) = false
 
-pub good_true : (c : Checked) → good c ≡ true → c ≡ Good
-good_true Good e = refl
-good_true (Bad number place) e = absurd (false≢true e)
-
-abbrev pub both : Pair → Bool
-both Both = true
-both (Refused number which place) = false
-
-pub both_true : (p : Pair) → both p ≡ true → p ≡ Both
-both_true Both e = refl
-both_true (Refused number which place) e = absurd (false≢true e)
+pub passed_true : {E : Type 0} (c : Result (Unit {0}) E) → passed c ≡ true → c ≡ Ok tt
+passed_true (Ok u) e = refl
+passed_true (Err x) e = absurd (false≢true e)
 
 abbrev pub same_list : List ℕ → List ℕ → Bool
 same_list [] [] = true

@@ -21,7 +21,7 @@ use Rattle.minimal.specs.Minimal.{minimal_bytes}
 use Rattle.minimal.proofs.MinimalLaws.{minimal_bytes_lem}
 use Rattle.samples.specs.Claims.{Task, minimal, sum, meet, inverse, mirror, repetition, letters_for, language_for, Result, Claim, accepted, rejected, paths, speaks, gives, differ, Means}
 use Rattle.samples.specs.Answers.{automaton_for}
-use Rattle.samples.proofs.Data.{Passed, good_true, same_true, none_true, word_true, all_below, below_true}
+use Rattle.samples.proofs.Data.{Passed, passed_true, same_true, none_true, word_true, all_below, below_true}
 use Rattle.samples.proofs.Names.{machine, letters_in, machine_words}
 use Rattle.samples.proofs.Test.{at_end, steady, tests}
 
@@ -56,7 +56,7 @@ task_words (repetition bs) a w ow = sym (accepts_star (automaton_of bs) w)
 
 module _ (t : Task) (r : List ℕ) (n d : ℕ) (p : Passed (tests (gives t r n d))) where
   pub formed : WellFormed r
-  formed = good_true (check_of r) p.1.0
+  formed = passed_true (check_of r) p.1.0
 
   pub over : letters_of r ≡ letters_for t
   over = eqb-true (letters_of r) (letters_for t) p.1.1.0

@@ -18,7 +18,8 @@ use Rattle.automata.proofs.Fields.{same_fields}
 use Rattle.rows.proofs.BesideLaws.{if_high}
 use Rattle.record.specs.Record.{max_states, states_of, letters_of, check_of, automaton_of, language_of, encode}
 use Rattle.record.specs.Outcome.{Outcome, refused, checked, fit}
-use Rattle.record.specs.declared.Checked.TheVariants.{Good}
+use Rattle.std.specs.Prelude.{Ok, Some}
+use Rattle.record.specs.declared.Rule.TheVariants.{Product, Dimension}
 use Rattle.record.proofs.Refusals.{good_check}
 use Rattle.record.proofs.Encode.{fields_encode}
 use Rattle.record.proofs.Outcome.{fit_done, fit_short}
@@ -29,9 +30,9 @@ use Rattle.operands.proofs.MeantLaws.{meant_formed}
 use Rattle.testing.specs.Testing.{test_of}
 use Rattle.minimal.specs.Minimal.{minimal_bytes, minimal_outcome}
 use Rattle.minimal.proofs.MinimalLaws.{minimal_bytes_lem}
-use Rattle.compare.specs.Compare.{side_of, difference_of, compare_outcome, compared_as}
+use Rattle.verdict.specs.Side.{side_of}
+use Rattle.compare.specs.Compare.{difference_of, compare_outcome, differs, compared_as}
 use Rattle.verdict.specs.declared.Side.{Side}
-use Rattle.compare.specs.declared.Compared.TheVariants.{Differs}
 use Rattle.compare.proofs.CompareLaws.{outcome_word}
 use Rattle.compare.proofs.Claims.{side_named}
 use Rattle.results.specs.Results.{result_of}
@@ -40,13 +41,13 @@ use Rattle.intersection.specs.Meet.{max_product, crossing, meet_outcome}
 use Rattle.star.specs.Star.{refusing_empty, star_outcome}
 use Rattle.samples.specs.Claims.{Task, minimal, sum, meet, inverse, mirror, repetition, letters_for, Claim, accepted, rejected, paths, speaks, gives, differ}
 use Rattle.samples.specs.Answers.{automaton_for, outcome_of, verdict, DiffersBy, Returned}
-use Rattle.samples.proofs.Data.{Passed, good, good_true, both, both_true, word_true}
+use Rattle.samples.proofs.Data.{Passed, passed, passed_true, word_true}
 use Rattle.samples.proofs.Test.{tests}
 use Rattle.samples.proofs.Meaning.{formed, over, states, own, same, holds}
 
 -- ---- the test service
 
-tested : (bs w : List ℕ) (b : Bool) → check_of bs ≡ Good → is_over (letters_of bs) w ≡ true → accepts (automaton_of bs) w ≡ b → test_of bs w ≡ verdict b
+tested : (bs w : List ℕ) (b : Bool) → check_of bs ≡ Ok tt → is_over (letters_of bs) w ≡ true → accepts (automaton_of bs) w ≡ b → test_of bs w ≡ verdict b
 unfolding test_of
 tested bs w b e f h = rw (e, f, h)
 
@@ -76,58 +77,58 @@ module _ (t : Task) (r : List ℕ) (n d : ℕ) (p : Passed (tests (gives t r n d
   unfolding result_of
   result room =
       let e : ℕ = dimension_of a (automaton_for t) in
-      if_high max_states e (refused 11 0 e) (fit room (encode a (minimal_of a (automaton_for t)))) (omega (arith, dimension, states t r n d p, (good_check r (formed t r n d p)).front.states))
+      if_high max_states e (refused Dimension 0 e) (fit room (encode a (minimal_of a (automaton_for t)))) (omega (arith, dimension, states t r n d p, (good_check r (formed t r n d p)).front.states))
       ∙ ap (fit room) written_bytes
 
 -- A second record that passes the checks stands for itself.
-itself : (bs cs : List ℕ) → both (pair_of bs cs) ≡ true → cs ≡ meant_over (letters_of bs) cs
-itself bs cs p = meant_formed (letters_of bs) cs (both_passed bs cs (both_true (pair_of bs cs) p)).1
+itself : (bs cs : List ℕ) → passed (pair_of bs cs) ≡ true → cs ≡ meant_over (letters_of bs) cs
+itself bs cs p = meant_formed (letters_of bs) cs (both_passed bs cs (passed_true (pair_of bs cs) p)).1
 
 -- The checks pass, for meet row 10 too, for the star row 14.
 outcome : (t : Task) (r : List ℕ) (n d : ℕ) → Passed (tests (gives t r n d)) → (room : ℕ) → outcome_of t room ≡ fit room r
 unfolding minimal_bytes minimal_outcome sum_outcome meet_outcome unary_outcome star_outcome
-outcome (minimal bs) r n d p room = ap (λ c. checked c 1 (fit room (minimal_bytes bs))) (good_true (check_of bs) p.0) ∙ ap (fit room) (written_bytes (minimal bs) r n d p)
+outcome (minimal bs) r n d p room = ap (λ c. checked c 1 (fit room (minimal_bytes bs))) (passed_true (check_of bs) p.0) ∙ ap (fit room) (written_bytes (minimal bs) r n d p)
 outcome (sum bs cs) r n d p room =
     subst (λ x. sum_outcome bs x room ≡ fit room r) (itself bs cs p.0)
-    (ap (λ c. after_pair c (result_of (letters_of bs) (automaton_for (sum bs cs)) room)) (both_true (pair_of bs cs) p.0) ∙ result (sum bs cs) r n d p room)
+    (ap (λ c. after_pair c (result_of (letters_of bs) (automaton_for (sum bs cs)) room)) (passed_true (pair_of bs cs) p.0) ∙ result (sum bs cs) r n d p room)
 outcome (meet bs cs) r n d p room =
     let e : ℕ = dimension_of (letters_of bs) (automaton_of bs) * dimension_of (letters_of bs) (automaton_of cs) in
     let rest : Outcome = result_of (letters_of bs) (automaton_for (meet bs cs)) room in
-    let t = and_parts (both (pair_of bs cs)) (leb e max_product) p.0 in
+    let t = and_parts (passed (pair_of bs cs)) (leb e max_product) p.0 in
     subst (λ x. meet_outcome bs x room ≡ fit room r) (itself bs cs t.0)
-    (ap (λ c. after_pair c (crossing e rest)) (both_true (pair_of bs cs) t.0)
-    ∙ if_high max_product e (refused 10 0 e) rest (leb-true e max_product t.1)
+    (ap (λ c. after_pair c (crossing e rest)) (passed_true (pair_of bs cs) t.0)
+    ∙ if_high max_product e (refused Product 0 e) rest (leb-true e max_product t.1)
     ∙ result (meet bs cs) r n d p room)
-outcome (inverse bs) r n d p room = ap (λ c. checked c 1 (result_of (letters_of bs) (automaton_for (inverse bs)) room)) (good_true (check_of bs) p.0) ∙ result (inverse bs) r n d p room
-outcome (mirror bs) r n d p room = ap (λ c. checked c 1 (result_of (letters_of bs) (automaton_for (mirror bs)) room)) (good_true (check_of bs) p.0) ∙ result (mirror bs) r n d p room
+outcome (inverse bs) r n d p room = ap (λ c. checked c 1 (result_of (letters_of bs) (automaton_for (inverse bs)) room)) (passed_true (check_of bs) p.0) ∙ result (inverse bs) r n d p room
+outcome (mirror bs) r n d p room = ap (λ c. checked c 1 (result_of (letters_of bs) (automaton_for (mirror bs)) room)) (passed_true (check_of bs) p.0) ∙ result (mirror bs) r n d p room
 outcome (repetition bs) r n d p room =
     let rest : Outcome = result_of (letters_of bs) (automaton_for (repetition bs)) room in
-    let t = and_parts (good (check_of bs)) (not (accepts (automaton_of bs) [])) p.0 in
-    ap (λ c. checked c 1 (refusing_empty (accepts (automaton_of bs) []) rest)) (good_true (check_of bs) t.0)
+    let t = and_parts (passed (check_of bs)) (not (accepts (automaton_of bs) [])) p.0 in
+    ap (λ c. checked c 1 (refusing_empty (accepts (automaton_of bs) []) rest)) (passed_true (check_of bs) t.0)
     ∙ ap (λ b. refusing_empty b rest) (not-true (accepts (automaton_of bs) []) t.1)
     ∙ result (repetition bs) r n d p room
 
 -- ---- the comparison
 
-differs : (bs cs w : List ℕ) (s : Side) → Passed (tests (differ bs cs w s)) → Returned (differ bs cs w s)
+different : (bs cs w : List ℕ) (s : Side) → Passed (tests (differ bs cs w s)) → Returned (differ bs cs w s)
 unfolding difference_of
-differs bs cs w s p =
+different bs cs w s p =
     let found : difference_of bs cs ≡ some w = word_true w (difference_of bs cs) p.1.0 in
-    let word : (room : ℕ) → compare_outcome bs cs room ≡ fit room w = λ room. outcome_word bs cs room (both_true (pair_of bs cs) p.0) w found in
+    let word : (room : ℕ) → compare_outcome bs cs room ≡ fit room w = λ room. outcome_word bs cs room (passed_true (pair_of bs cs) p.0) w found in
     let first = holds (differ bs cs w s) p in
     let side : side_of (language_of bs w) ≡ s = side_named bs cs w s first.0.differs first.1 in
     subst (DiffersBy w s bs) (itself bs cs p.0) (
       word,
-      λ room h. ap₂ (λ x o. compared_as x (automaton_of bs) o) found (word room ∙ fit_done room w refl h) ∙ ap (Differs (length w)) side,
+      λ room h. ap₂ (λ x o. compared_as x (automaton_of bs) o) found (word room ∙ fit_done room w refl h) ∙ ap (λ x. Ok (Some (differs (length w) x))) side,
       λ room h. ap₂ (λ x o. compared_as x (automaton_of bs) o) found (word room ∙ fit_short room w refl h),
     )
 
 -- ---- each claim
 
 pub returned : (c : Claim) → Passed (tests c) → Returned c
-returned (accepted bs w) p = tested bs w true (good_true (check_of bs) p.0) p.1.0 (holds (accepted bs w) p)
-returned (rejected bs w) p = tested bs w false (good_true (check_of bs) p.0) p.1.0 (holds (rejected bs w) p)
-returned (paths bs k) p = λ w ow. tested bs w (odd k) (good_true (check_of bs) p.0) (is_over_lem (letters_of bs) w ow) (ap odd (holds (paths bs k) p w ow))
-returned (speaks bs s) p = λ w ow. tested bs w _ (good_true (check_of bs) p.0) (is_over_lem (letters_of bs) w ow) (sym (holds (speaks bs s) p w ow))
+returned (accepted bs w) p = tested bs w true (passed_true (check_of bs) p.0) p.1.0 (holds (accepted bs w) p)
+returned (rejected bs w) p = tested bs w false (passed_true (check_of bs) p.0) p.1.0 (holds (rejected bs w) p)
+returned (paths bs k) p = λ w ow. tested bs w (odd k) (passed_true (check_of bs) p.0) (is_over_lem (letters_of bs) w ow) (ap odd (holds (paths bs k) p w ow))
+returned (speaks bs s) p = λ w ow. tested bs w _ (passed_true (check_of bs) p.0) (is_over_lem (letters_of bs) w ow) (sym (holds (speaks bs s) p w ow))
 returned (gives t r n d) p = record { bytes = outcome t r n d p; dimension = dimension t r n d p }
-returned (differ bs cs w s) p = differs bs cs w s p
+returned (differ bs cs w s) p = different bs cs w s p

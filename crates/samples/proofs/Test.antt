@@ -19,7 +19,7 @@ use Rattle.catalogue.specs.Entries.{entry_of, letters_at, record_of}
 use Rattle.samples.specs.Claims.{Task, minimal, sum, meet, inverse, mirror, repetition, letters_for, Claim, accepted, rejected, paths, speaks, gives, differ}
 use Rattle.samples.specs.Table.{x12, x, no_states, one_state, two_paths, zero_star, one_star, cycle, star_sum, first_one, nonempty, empty_or_zero, samples, Every}
 use Rattle.samples.specs.Answers.{automaton_for}
-use Rattle.samples.proofs.Data.{every, good, both, same_list, no_word, is_word, all_below}
+use Rattle.samples.proofs.Data.{every, passed, same_list, no_word, is_word, all_below}
 use Rattle.samples.proofs.Names.{machine, letters_in, known}
 
 -- ---- the test of a claim
@@ -34,32 +34,32 @@ steady a A = all_below a (λ l. all_below A.states (λ i. eqb (sum_below A.state
 
 -- What the service checks, rows 10 and 14 included.
 abbrev pub passes : Task → Bool
-passes (minimal bs) = good (check_of bs)
-passes (sum bs cs) = both (pair_of bs cs)
-passes (meet bs cs) = both (pair_of bs cs) && leb (dimension_of (letters_of bs) (automaton_of bs) * dimension_of (letters_of bs) (automaton_of cs)) max_product
-passes (inverse bs) = good (check_of bs)
-passes (mirror bs) = good (check_of bs)
-passes (repetition bs) = good (check_of bs) && not (accepts (automaton_of bs) [])
+passes (minimal bs) = passed (check_of bs)
+passes (sum bs cs) = passed (pair_of bs cs)
+passes (meet bs cs) = passed (pair_of bs cs) && leb (dimension_of (letters_of bs) (automaton_of bs) * dimension_of (letters_of bs) (automaton_of cs)) max_product
+passes (inverse bs) = passed (check_of bs)
+passes (mirror bs) = passed (check_of bs)
+passes (repetition bs) = passed (check_of bs) && not (accepts (automaton_of bs) [])
 
 -- Each claim's tests. Of a result: the record r is its own minimal record, with d states, and accepts the words of the result; that is
 -- less to compute than the minimal record of the result.
 abbrev pub tests : Claim → List Bool
-tests (accepted bs w) = good (check_of bs) ∷ is_over (letters_of bs) w ∷ accepts (automaton_of bs) w ∷ []
-tests (rejected bs w) = good (check_of bs) ∷ is_over (letters_of bs) w ∷ not (accepts (automaton_of bs) w) ∷ []
+tests (accepted bs w) = passed (check_of bs) ∷ is_over (letters_of bs) w ∷ accepts (automaton_of bs) w ∷ []
+tests (rejected bs w) = passed (check_of bs) ∷ is_over (letters_of bs) w ∷ not (accepts (automaton_of bs) w) ∷ []
 tests (paths bs k) =
-    good (check_of bs)
+    passed (check_of bs)
     ∷ steady (letters_of bs) (automaton_of bs)
     ∷ eqb (sum_below (states_of bs) (λ i. cond ((automaton_of bs).initial i) (at_end (automaton_of bs) i) 0)) k
     ∷ []
 tests (speaks bs s) =
-    good (check_of bs)
+    passed (check_of bs)
     ∷ known s
     ∷ leb (letters_of bs) (letters_in s)
     ∷ no_word (first_difference (letters_of bs) (machine s) (automaton_of bs))
     ∷ []
 tests (gives t r n d) =
     passes t
-    ∷ good (check_of r)
+    ∷ passed (check_of r)
     ∷ eqb (letters_of r) (letters_for t)
     ∷ eqb (states_of r) d
     ∷ same_list (minimal_bytes r) r
@@ -67,7 +67,7 @@ tests (gives t r n d) =
     ∷ eqb (length r) n
     ∷ []
 tests (differ bs cs w s) =
-    both (pair_of bs cs)
+    passed (pair_of bs cs)
     ∷ is_word w (first_difference (letters_of bs) (automaton_of bs) (automaton_of cs))
     ∷ accepts (automaton_of (acceptor_of s bs cs)) w
     ∷ []

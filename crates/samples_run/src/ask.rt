@@ -1,43 +1,34 @@
 // Each service on lent bytes: what is asked and the answer, as one line.
 use crate::show;
+use crate::show::{Accepted, Bytes, Compared, Minimal};
 use std::io;
-
-fn say(rt: &impl Print, text: &str) -> io::Result<()> {
-    rt.print(text)
-}
 
 pub fn rewrite(rt: &impl Print, name: &str, bytes: &[u8]) -> io::Result<()> {
     let mut out = [0u8; 1039];
-    say(rt, name)?;
-    show::written(rt, codec::rewrite(bytes, &mut out))
+    show::line(rt, name, codec::rewrite(bytes, &mut out).map(Bytes))
 }
 
 pub fn test(rt: &impl Print, name: &str, bytes: &[u8], word: &[u8]) -> io::Result<()> {
-    say(rt, name)?;
-    show::tested(rt, testing::test(bytes, word))
+    show::line(rt, name, testing::test(bytes, word).map(Accepted))
 }
 
 pub fn minimal(rt: &impl Print, name: &str, bytes: &[u8], out: &mut [u8]) -> io::Result<()> {
-    say(rt, name)?;
-    show::minimised(rt, minimal::minimal(bytes, out))
+    show::line(rt, name, minimal::minimal(bytes, out).map(Minimal))
 }
 
 pub fn compare(rt: &impl Print, name: &str, first: &[u8], second: &[u8]) -> io::Result<()> {
     let mut word = [0u8; 63];
-    say(rt, name)?;
-    show::compared(rt, compare::compare(first, second, &mut word))
+    show::line(rt, name, compare::compare(first, second, &mut word).map(Compared))
 }
 
 pub fn sum(rt: &impl Print, name: &str, first: &[u8], second: &[u8]) -> io::Result<()> {
     let mut out = [0u8; 1039];
-    say(rt, name)?;
-    show::written(rt, operations::sum(first, second, &mut out))
+    show::line(rt, name, operations::sum(first, second, &mut out).map(Bytes))
 }
 
 pub fn meet(rt: &impl Print, name: &str, first: &[u8], second: &[u8]) -> io::Result<()> {
     let mut out = [0u8; 1039];
-    say(rt, name)?;
-    show::written(rt, intersection::meet(first, second, &mut out))
+    show::line(rt, name, intersection::meet(first, second, &mut out).map(Bytes))
 }
 
 pub fn product(
@@ -47,23 +38,19 @@ pub fn product(
     second: &[u8],
     out: &mut [u8],
 ) -> io::Result<()> {
-    say(rt, name)?;
-    show::written(rt, operations::product(first, second, out))
+    show::line(rt, name, operations::product(first, second, out).map(Bytes))
 }
 
 pub fn star(rt: &impl Print, name: &str, bytes: &[u8], out: &mut [u8]) -> io::Result<()> {
-    say(rt, name)?;
-    show::written(rt, star::star(bytes, out))
+    show::line(rt, name, star::star(bytes, out).map(Bytes))
 }
 
 pub fn complement(rt: &impl Print, name: &str, bytes: &[u8]) -> io::Result<()> {
     let mut out = [0u8; 1039];
-    say(rt, name)?;
-    show::written(rt, operations::complement(bytes, &mut out))
+    show::line(rt, name, operations::complement(bytes, &mut out).map(Bytes))
 }
 
 pub fn catalogue(rt: &impl Print, name: &str, number: usize) -> io::Result<()> {
     let mut out = [0u8; 1039];
-    say(rt, name)?;
-    show::written(rt, catalogue::give(number, &mut out))
+    show::line(rt, name, catalogue::give(number, &mut out).map(Bytes))
 }

@@ -1,70 +1,61 @@
 // Answers of the services as lines.
-use compare::{Compared, Side};
+use compare::Difference;
 use minimal::Minimised;
-use record::Written;
+use record::Refusal;
+use std::fmt;
+use std::fmt::Display;
 use std::io;
-use testing::Tested;
+use verdict::Side;
 
-fn refused(rt: &impl Print, number: usize, record: usize, place: usize) -> io::Result<()> {
-    println!(rt; "refused {number}, record {record}, place {place}")
-}
+// What a service granted, as its line says it.
+pub struct Bytes(pub usize);
 
-pub fn written(rt: &impl Print, w: Written) -> io::Result<()> {
-    match w {
-        Written::Done { length } => println!(rt; "{length} bytes"),
-        Written::Refused {
-            number,
-            record,
-            place,
-        } => refused(rt, number, record, place),
+pub struct Accepted(pub bool);
+
+pub struct Minimal(pub Minimised);
+
+pub struct Compared(pub Option<Difference>);
+
+impl Display for Bytes {
+    fn fmt<W: fmt::Write>(&self, f: &mut fmt::Formatter<W>) -> fmt::Result {
+        write!(f, "{} bytes", self.0)
     }
 }
 
-pub fn minimised(rt: &impl Print, m: Minimised) -> io::Result<()> {
-    match m {
-        Minimised::Done { length, dimension } => {
-            println!(rt; "{length} bytes, dimension {dimension}")
+impl Display for Accepted {
+    fn fmt<W: fmt::Write>(&self, f: &mut fmt::Formatter<W>) -> fmt::Result {
+        f.write_str(if self.0 { "accepted" } else { "rejected" })
+    }
+}
+
+impl Display for Minimal {
+    fn fmt<W: fmt::Write>(&self, f: &mut fmt::Formatter<W>) -> fmt::Result {
+        write!(f, "{} bytes, dimension {}", self.0.length, self.0.dimension)
+    }
+}
+
+impl Display for Compared {
+    fn fmt<W: fmt::Write>(&self, f: &mut fmt::Formatter<W>) -> fmt::Result {
+        match self.0 {
+            None => f.write_str("same"),
+            Some(d) => {
+                let side = match d.side {
+                    Side::First => "first",
+                    Side::Second => "second",
+                };
+                write!(f, "differs, word of {} letters, accepted by the {side}", d.length)
+            }
         }
-        Minimised::Refused {
-            number,
-            record,
-            place,
-        } => refused(rt, number, record, place),
     }
 }
 
-fn side(s: Side) -> &'static str {
-    match s {
-        Side::First => "first",
-        Side::Second => "second",
-    }
-}
-
-pub fn compared(rt: &impl Print, c: Compared) -> io::Result<()> {
-    match c {
-        Compared::Same => println!(rt; "same"),
-        Compared::Differs { length, side: s } => {
-            println!(rt;
-                "differs, word of {length} letters, accepted by the {}",
-                side(s)
-            )
+// What was asked, and the answer to it.
+pub fn line<T: Display>(rt: &impl Print, name: &str, answer: Result<T, Refusal>) -> io::Result<()> {
+    match answer {
+        Ok(granted) => println!(rt; "{name}{granted}"),
+        Err(r) => {
+            let number = r.rule.number();
+            println!(rt; "{name}refused {number}, record {}, place {}", r.record, r.place)
         }
-        Compared::Refused {
-            number,
-            record,
-            place,
-        } => refused(rt, number, record, place),
-    }
-}
-
-pub fn tested(rt: &impl Print, t: Tested) -> io::Result<()> {
-    match t {
-        Tested::Accepted => println!(rt; "accepted"),
-        Tested::Rejected => println!(rt; "rejected"),
-        Tested::Refused {
-            number,
-            record,
-            place,
-        } => refused(rt, number, record, place),
     }
 }
