@@ -8,8 +8,8 @@ use borrow.Rule.Slice.PartMut.{mid_of, post_of, put_mid, mid_len}
 use lib.ListN.{length, take, drop, length-append}
 use lib.Seq.{length-take-le, take_at}
 use Rattle.record.specs.Outcome.{wrote, answer_of, buffer_of, fit}
-use Rattle.record.specs.declared.Written.{Written}
-use Rattle.record.specs.declared.Written.TheVariants.{Done}
+use Rattle.std.specs.Prelude.{Result, Ok}
+use Rattle.record.specs.declared.Refusal.{Refusal}
 use Rattle.record.proofs.Outcome.{fit_done}
 use Rattle.lines.specs.Lines.{Begins}
 
@@ -31,7 +31,7 @@ module _ (out line : List ℕ) (n : ℕ) (room : n + length line ≤ length out)
   fits : fit (length (part_from out n)) line ≡ wrote line
   fits = fit_done (length (part_from out n)) line refl (rw (mid_len n (length out) out (omega arith)) (omega arith))
 
-  pub granted : (w : Written) → w ≡ answer_of (fit (length (part_from out n)) line) → w ≡ Done (length line)
+  pub granted : (w : Result ℕ Refusal) → w ≡ answer_of (fit (length (part_from out n)) line) → w ≡ Ok (length line)
   granted w e = e ∙ ap answer_of fits
 
   pub behind : (back : List ℕ) (r : ℕ) → back ≡ buffer_of (fit (length (part_from out n)) line) (part_from out n) → r ≡ n + length line

@@ -18,7 +18,6 @@ ghost use Rattle.marking_io.specs.Program.{MarksRead, MarksFrom};
 #[cfg(test)]
 mod tests;
 
-use record::Written;
 use std::fmt::InlineText;
 use std::io;
 use std::io::{Error, ErrorKind, Read, Write};
@@ -51,9 +50,7 @@ fn put_line(script: &[u8], index: usize, at: usize, out: &mut [u8], n: usize) ->
     ensures count { (result ≡ n + length (mark_line script.now index)) × (result ≤ n + longest) }
     ensures bytes { Begins out.new result (take n out.old ++ mark_line script.now index) }
 {
-    let Written::Done { length } = marking::line_at(script, index, at, &mut out[n..]) else {
-        return n;
-    };
+    let length = marking::line_at(script, index, at, &mut out[n..]).unwrap_or(0);
     n + length
 }
 

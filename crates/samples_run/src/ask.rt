@@ -18,17 +18,29 @@ pub fn minimal(rt: &impl Print, name: &str, bytes: &[u8], out: &mut [u8]) -> io:
 
 pub fn compare(rt: &impl Print, name: &str, first: &[u8], second: &[u8]) -> io::Result<()> {
     let mut word = [0u8; 63];
-    show::line(rt, name, compare::compare(first, second, &mut word).map(Compared))
+    show::line(
+        rt,
+        name,
+        compare::compare(first, second, &mut word).map(Compared),
+    )
 }
 
 pub fn sum(rt: &impl Print, name: &str, first: &[u8], second: &[u8]) -> io::Result<()> {
     let mut out = [0u8; 1039];
-    show::line(rt, name, operations::sum(first, second, &mut out).map(Bytes))
+    show::line(
+        rt,
+        name,
+        operations::sum(first, second, &mut out).map(Bytes),
+    )
 }
 
 pub fn meet(rt: &impl Print, name: &str, first: &[u8], second: &[u8]) -> io::Result<()> {
     let mut out = [0u8; 1039];
-    show::line(rt, name, intersection::meet(first, second, &mut out).map(Bytes))
+    show::line(
+        rt,
+        name,
+        intersection::meet(first, second, &mut out).map(Bytes),
+    )
 }
 
 pub fn product(

@@ -18,14 +18,12 @@ pub fn head(b: &mut [u8], n: u8, a: u8) {
     put(b, 6, a);
 }
 
-const BITS: [u8; 8] = [1, 2, 4, 8, 16, 32, 64, 128];
-
 // Bit j of the row at an offset.
 fn set_bit(b: &mut [u8], at: usize, j: usize)
     requires at_bound { at ≤ 4096 }
     requires j_bound { j ≤ 32 }
 {
-    put(b, at + j / 8, BITS[j % 8]);
+    put(b, at + j / 8, 1 << (j % 8));
 }
 
 // The machine that accepts a letter repeated k times, and no other word: k + 1 states in a row. The letter's rows start at `first`.

@@ -2,18 +2,21 @@
 use compare::Difference;
 use minimal::Minimised;
 use record::Refusal;
-use std::fmt;
 use std::fmt::Display;
-use std::io;
+use std::{fmt, io};
 use verdict::Side;
 
 // What a service granted, as its line says it.
+#[derive(Clone, Copy)]
 pub struct Bytes(pub usize);
 
+#[derive(Clone, Copy)]
 pub struct Accepted(pub bool);
 
+#[derive(Clone, Copy)]
 pub struct Minimal(pub Minimised);
 
+#[derive(Clone, Copy)]
 pub struct Compared(pub Option<Difference>);
 
 impl Display for Bytes {
@@ -43,19 +46,30 @@ impl Display for Compared {
                     Side::First => "first",
                     Side::Second => "second",
                 };
-                write!(f, "differs, word of {} letters, accepted by the {side}", d.length)
+                write!(
+                    f,
+                    "differs, word of {} letters, accepted by the {side}",
+                    d.length
+                )
             }
         }
     }
 }
 
 // What was asked, and the answer to it.
-pub fn line<T: Display>(rt: &impl Print, name: &str, answer: Result<T, Refusal>) -> io::Result<()> {
+pub fn line<T: Copy + Display>(
+    rt: &impl Print,
+    name: &str,
+    answer: Result<T, Refusal>,
+) -> io::Result<()> {
     match answer {
         Ok(granted) => println!(rt; "{name}{granted}"),
         Err(r) => {
             let number = r.rule.number();
-            println!(rt; "{name}refused {number}, record {}, place {}", r.record, r.place)
+            println!(rt;
+                "{name}refused {number}, record {}, place {}",
+                r.record, r.place
+            )
         }
     }
 }

@@ -1,10 +1,11 @@
 -- `put_line`: every line has room in the buffer, so it is written, behind the bytes that were there.
 use Rattle.std.proofs.Common.{◌≡◌, ℕ, ◌+◌, ◌≤◌, List, length, ap, arith}
-use Rattle.record.specs.declared.Written.TheVariants.{Done}
+use Rattle.std.specs.Prelude.{Ok}
+use Rattle.std.specs.Result.{result_unwrap_or}
 use Rattle.lines.specs.Lines.{longest}
 use Rattle.marking.specs.Marking.{line_at, mark_line}
 use Rattle.marking_io.proofs.Behind.{granted, behind}
-use Rattle.marking_io.proofs.put_line.Goals.{After-line_at, In-Done}
+use Rattle.marking_io.proofs.put_line.Goals.{After-line_at, After-unwrap_or-length}
 use Rattle.marking_io.proofs.put_line.Goals as goal
 
 module _ (c : After-line_at) where
@@ -22,32 +23,24 @@ module _ (c : After-line_at) where
   room : c.args.n + length line ≤ length c.args.out.now
   room = omega (arith, short, c.requires.1)
 
-  answer : c.line_at.result ≡ Done (length line)
+  answer : c.line_at.result ≡ Ok (length line)
   answer = granted c.args.out.now line c.args.n room c.line_at.result (rw line_is at c.line_at.ensures.answer)
 
 -- How many bytes it wrote.
-count : (c : In-Done) → c.in-Done.length ≡ length (line (goal.at.returns c).After-line_at)
-count c =
-    let wrote = answer (goal.at.returns c).After-line_at in
-    let told = c.in-Done.is in
-    cc
-
--- It does not refuse.
-pub returns-in_default : goal.returns-in_default
-returns-in_default c =
-    let wrote = answer (goal.at.returns-in_default c).After-line_at in
-    let refused = c.in_default.is in
-    let z : ◌≡◌ {A = ℕ} 0 1 = cc in
-    absurd (omega arith)
+count : (c : After-unwrap_or-length) → c.unwrap_or-length.result ≡ length (line c.After-line_at)
+count c = c.unwrap_or-length.ensures ∙ ap (λ w. result_unwrap_or w 0) (answer c.After-line_at)
 
 pub overflow_add-result : goal.overflow_add-result
-overflow_add-result c = omega (arith, count c, room (goal.at.overflow_add-result c).After-line_at, c.well_formed)
+overflow_add-result c =
+    let e = count (goal.at.overflow_add-result c).After-unwrap_or-length in
+    omega (arith, e, room (goal.at.overflow_add-result c).After-line_at, c.well_formed)
 
 pub returns : goal.returns
 returns c =
     let l = (goal.at.returns c).After-line_at in
     let n = c.args.n in
-    let total : n + c.in-Done.length ≡ n + length (line l) = ap (λ k. n + k) (count c) in
+    let e = count (goal.at.returns c).After-unwrap_or-length in
+    let total : n + c.unwrap_or-length.result ≡ n + length (line l) = ap (λ k. n + k) e in
     record {
       count = (total, omega (arith, total, short l));
       bytes = behind c.args.out.now (line l) n (room l) _ _ (rw (line_is l) at c.line_at.ensures.buffer) total;
