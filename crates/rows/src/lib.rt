@@ -10,6 +10,10 @@ ghost use Rattle.rows.specs.Row.{width, levels, mask, stripes};
 ghost use Rattle.rows.specs.Table.{blocks, at, stored};
 ghost use Rattle.rows.specs.Product.{product};
 
+mod source;
+
+pub use source::Source;
+
 // A row of `width` bits.
 #[derive(Clone, Copy, PartialEq, Eq)]
 pub struct Row {
