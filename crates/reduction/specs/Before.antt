@@ -4,7 +4,7 @@
 --   Product r k l y  y is row k of the basis times letter l
 --   Follows r r'     r' is r some pairs later: the same automaton and tables, and no fewer rows found
 --   Filled r r'      the same where just the products are added to
-use Rattle.std.specs.Prelude.{◌≡◌, ℕ, ◌<◌, ◌≤◌}
+use Rattle.std.specs.Prelude.{◌≡◌, ℕ, ◌≤◌}
 use Rattle.rows.specs.Row.{width, mask}
 use Rattle.rows.specs.Table.{at}
 use Rattle.rows.specs.Product.{product}
@@ -28,5 +28,7 @@ pub record Follows (r r' : Reduction) : Type 0 where
   pub more : r.size.count ≤ r'.size.count
 
 pub record Filled (r r' : Reduction) : Type 0 where
-  pub same : r' ≡ record r { out = r'.out }
+  pub source : r'.source ≡ r.source
+  pub basis : r'.basis ≡ r.basis
+  pub size : r'.size ≡ r.size
   pub out : r'.out.ghost_name ≡ r.out.ghost_name

@@ -50,7 +50,9 @@ impl<'a> Reduction<'a> {
         requires { Before self.old k l × (k < self.old.size.count) × (l < self.old.source.machine.letters) × Product self.old k l (mask y) }
         ensures { Before self.new k (l + 1) × Follows self.old self.new × (cell width self.new.basis.now 1 k ≡ cell width self.old.basis.now 1 k) }
     {
-        let q = elimination::place(self.basis, WIDEST, self.source.machine.states, self.size, y);
+        let n = self.source.machine.states;
+        let s = self.size;
+        let q = elimination::place(self.basis, WIDEST, n, s, y);
         rows::store(self.out, l, k, q.row);
         self.size = q.size;
     }

@@ -2,7 +2,6 @@
 use mathlib.Core.Path.{refl, sym, subst}
 use Prim.Native.Nat.{◌^◌, ◌<◌}
 use native.Mathlib.Omega.{arith}
-use Rattle.rows.specs.Row.{width}
 use Rattle.rows.proofs.ProductLaws.{product_lt}
 use Rattle.reduction.proofs.TableSearch.{count_bound, searching_step, placed_more, placed_kept}
 use Rattle.reduction.proofs.Reduction.step.Goals as goal
