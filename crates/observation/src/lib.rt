@@ -70,6 +70,12 @@ fn explore_rows(x: Source, b: &mut Basis, s: Size) -> Size
 pub fn explore(x: Source, b: &mut Basis) -> Size
     ensures { ExploredBy x.entry b.new result }
 {
-    let s = elimination::insert(b, WIDEST, x.machine.states, Size::empty(), x.machine.initial);
+    let s = elimination::insert(
+        b,
+        WIDEST,
+        x.machine.states,
+        Size::empty(),
+        x.machine.initial,
+    );
     explore_rows(x, b, s)
 }
