@@ -14,7 +14,7 @@ ghost use Rattle.record.specs.Record.{max_states, max_letters, row_bytes, header
 ghost use Rattle.record.specs.Outcome.{fit, answer_of, buffer_of, rewrite_of};
 ghost use Rattle.record.specs.Held.{HeldUpTo, Holds};
 
-use record::{Checked, FINAL_AT, INITIAL_AT, ROW_BYTES, ROWS_AT, VERSION, Written};
+use record::{FINAL_AT, INITIAL_AT, ROW_BYTES, ROWS_AT, Refusal, Rule, VERSION};
 use rows::{Machine, Row, Table};
 
 // The rows of letter l, into block l.
@@ -120,7 +120,7 @@ fn put_rows(t: &Table, m: Machine, buf: &mut [u8])
 }
 
 // The record of an automaton of at most 32 states into a lent buffer, or refusal 12.
-pub fn write(t: &Table, m: Machine, buf: &mut [u8]) -> Written
+pub fn write(t: &Table, m: Machine, buf: &mut [u8]) -> Result<usize, Refusal>
     requires { Valid t.now m × (m.states ≤ max_states) }
     ensures answer { result ≡ answer_of (fit (length buf.old) (encode m.letters (automaton_in t.now m))) }
     ensures buffer { buf.new ≡ buffer_of (fit (length buf.old) (encode m.letters (automaton_in t.now m))) buf.old }
@@ -129,28 +129,21 @@ pub fn write(t: &Table, m: Machine, buf: &mut [u8]) -> Written
     let a = m.letters;
     let whole = record::length_of(n, a);
     if buf.len() < whole {
-        return Written::Refused {
-            number: 12,
-            record: 0,
-            place: whole,
-        };
+        return Err(Rule::NoRoom.of(0, whole));
     }
     put_head(buf, n, a);
     put_field(buf, INITIAL_AT, m.initial);
     put_field(buf, FINAL_AT, m.finals);
     put_rows(t, m, buf);
-    Written::Done { length: whole }
+    Ok(whole)
 }
 
 // A record read and written afresh.
-pub fn rewrite(bytes: &[u8], buf: &mut [u8]) -> Written
+pub fn rewrite(bytes: &[u8], buf: &mut [u8]) -> Result<usize, Refusal>
     ensures answer { result ≡ answer_of (rewrite_of bytes.now (length buf.old)) }
     ensures buffer { buf.new ≡ buffer_of (rewrite_of bytes.now (length buf.old)) buf.old }
 {
-    let c = record::check(bytes);
-    let Checked::Good = c else {
-        return record::refused(c, 1);
-    };
+    record::check_as(bytes, 1)?;
     let mut t = [0u64; 512];
     let m = read(bytes, &mut t);
     write(&t, m, buf)

@@ -4,7 +4,7 @@ use mathlib.Core.Bool.{Bool, true, false}
 use mathlib.Core.List.{List, [], ◌∷◌, ◌++◌}
 use mathlib.Core.Logic.{inl, inr}
 use mathlib.Core.Option.{none, some}
-use Prim.Native.Nat.{ℕ, ◌+◌, ◌<◌, ◌≤◌}
+use Prim.Native.Nat.{ℕ, ◌+◌, ◌^◌, ◌<◌, ◌≤◌}
 use native.Mathlib.Omega.{arith}
 use lib.ListN.{length}
 use Rattle.automata.specs.Xor.{◌⊕◌}
@@ -25,9 +25,11 @@ use Rattle.record.specs.Record.{row_bytes, final_at, states_of, letters_of, auto
 use Rattle.hunt.specs.Both.{beside_of, Paired}
 use Rattle.hunt.specs.Hunt.{shared}
 use Rattle.hunt.proofs.BothLaws.{paired_sizes}
+use Rattle.verdict.specs.declared.Side.{Side}
+use Rattle.verdict.specs.Side.{side_of}
 use Rattle.verdict.specs.Judged.{Found}
 use Rattle.verdict.specs.Rows.{RowOf}
-use Rattle.verdict.proofs.RowLaws.{row_start, row_next, row_differs, row_first}
+use Rattle.verdict.proofs.RowLaws.{row_start, row_next, row_below, row_differs, row_first}
 
 -- ---- the trail of one letter
 
@@ -66,14 +68,18 @@ module _ (bs cs : List ℕ) (m : Machine) (P : Paired bs cs m) (empty : shared m
     pub letter_row : RowOf bs cs (l ∷ []) y
     letter_row = row_next bs cs m P [] (mask m.initial) l y (row_start bs cs m P) h e
 
+    -- The parity of its row with the final column tells whether just one accepts it.
+    pub letter_told : (r t : Bool) → ((n : ℕ) → y < 2 ^ n → r ≡ shared n y (mask m.finals)) → r ≡ t → shared m.states y (mask m.finals) ≡ t
+    letter_told r t p q = sym (p m.states (row_below bs cs m P (l ∷ []) y letter_row)) ∙ q
+
     pub letter_tried : shared m.states y (mask m.finals) ≡ false → accepts A (l ∷ []) ⊕ accepts B (l ∷ []) ≡ false
     letter_tried t = row_differs bs cs m P (l ∷ []) y letter_row ∙ t
 
-    pub letter_found : (w w' : List ℕ) → length w ≡ trail_size → w' ≡ linked w 1 0 l → (first : Bool) → first ≡ shared (states_of bs) (number row_bytes bs final_at) y → shared m.states y (mask m.finals) ≡ true
-        → ((x : ℕ) → x < l → accepts A (x ∷ []) ⊕ accepts B (x ∷ []) ≡ false) → Found (letters_of bs) A B w' 1 first
-    letter_found w w' t q first s d before = subst (λ a. Found a A B w' 1 first) P.letters (record {
+    pub letter_found : (w w' : List ℕ) → length w ≡ trail_size → w' ≡ linked w 1 0 l → (s : Side) → s ≡ side_of (shared (states_of bs) (number row_bytes bs final_at) y) → shared m.states y (mask m.finals) ≡ true
+        → ((x : ℕ) → x < l → accepts A (x ∷ []) ⊕ accepts B (x ∷ []) ≡ false) → Found (letters_of bs) A B w' 1 s
+    letter_found w w' t q s e' d before = subst (λ a. Found a A B w' 1 s) P.letters (record {
       word = some_difference m.letters A B (l ∷ []) (record { over = (h, tt); differs = row_differs bs cs m P (l ∷ []) y letter_row ∙ d; first = λ u o g. xor_zero (earlier u g) }) ∙ ap some (sym (word_one m.letters l w w' t q));
-      side = s ∙ row_first bs cs m P (l ∷ []) y letter_row ∙ ap (accepts A) (sym (word_one m.letters l w w' t q));
+      side = e' ∙ ap side_of (row_first bs cs m P (l ∷ []) y letter_row ∙ ap (accepts A) (sym (word_one m.letters l w w' t q)));
       traced = traced_one m.letters l w w' t q (paired_sizes bs cs m P).2 h;
     })
       where

@@ -62,7 +62,7 @@ pub fn concatenate(t: &mut Table, g: Machine, u: &Table, h: Machine) -> Machine
     Machine {
         states: n + k,
         letters: a,
-        initial: initial,
-        finals: finals,
+        initial,
+        finals,
     }
 }

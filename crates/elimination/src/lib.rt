@@ -83,7 +83,7 @@ pub fn left_of(b: &[u64], stride: usize, s: Size, y: Row) -> Row
 {
     let p = s.pivots;
     let z = rows::and(y, p);
-    let e = basis::times(b, stride, 0, z);
+    let [e]: [Row; 1] = basis::times_each(b, stride, [0], z);
     rows::xor(y, e)
 }
 
@@ -115,7 +115,7 @@ pub struct Spot {
     pub size: Size,
 }
 
-// The same with coefficients: which of the rows found make y.
+// The same with coefficients: which of the rows found make y. One function for both would ask at each step whether coefficients are kept.
 pub fn place(b: &mut [u64], stride: usize, n: usize, s: Size, y: Row) -> Spot
     requires { (n ≤ width) × (n ≤ stride) × Room stride b.old × (mask y < 2 ^ n) × BasisIn stride n s.count (mask s.pivots) (bits stride b.old 2) b.old × Covered stride s.count (mask s.used) b.old }
     ensures { Placed stride n s.count (mask s.pivots) (mask s.used) (mask y) (bits stride b.old 2) (bits stride b.new 2) (bit_of (mask result.row)) b.old b.new result.size.count (mask result.size.pivots) (mask result.size.used) }
@@ -124,9 +124,7 @@ pub fn place(b: &mut [u64], stride: usize, n: usize, s: Size, y: Row) -> Spot
     let p = s.pivots;
     let v = s.used;
     let z = rows::and(y, p);
-    let w = basis::times_two(b, stride, 0, 2, z);
-    let e = w.first;
-    let c = w.second;
+    let [e, c]: [Row; 2] = basis::times_each(b, stride, [0, 2], z);
     let left = rows::xor(y, e);
     if rows::is_none(left) {
         return Spot { row: c, size: s };

@@ -4,13 +4,11 @@
 --   same_line i d              i same dim d
 --   differ_line i d w s        i differ dim d word w accepted-by s
 --   too_long_line              too long
---   Begun before line at text  a text was stored from the start of a lent line on; at is where it ends
---   Begins line n text         the first n bytes of a lent line are the text
+--   Begins out n text          the first n bytes of a buffer are the text
 use Rattle.std.specs.Prelude.{◌≡◌, List, ◌++◌, ℕ, ◌≤◌, length, take}
-use Rattle.std.proofs.lemmas.List.Edits.{sets}
 use Rattle.text.specs.Text.{ascii, decimal, word_text}
-use Rattle.compare.specs.declared.Side.{Side}
-use Rattle.compare.specs.declared.Side.TheVariants.{First, Second}
+use Rattle.verdict.specs.declared.Side.{Side}
+use Rattle.verdict.specs.declared.Side.TheVariants.{First, Second}
 
 -- How the line of a record starts: its index, words, and a number.
 unfoldable pub opening : ℕ → List ℕ → ℕ → List ℕ
@@ -44,11 +42,6 @@ too_long_line = ascii "too long\n"
 abbrev pub longest : ℕ
 longest = 160
 
--- `before` is the line as it was.
-pub record Begun (before line : List ℕ) (at : ℕ) (text : List ℕ) : Type 0 where
-  pub place : at ≡ length text
-  pub stored : line ≡ sets before 0 text
-
-pub record Begins (line : List ℕ) (n : ℕ) (text : List ℕ) : Type 0 where
-  pub within : n ≤ length line
-  pub bytes : take n line ≡ text
+pub record Begins (out : List ℕ) (n : ℕ) (text : List ℕ) : Type 0 where
+  pub within : n ≤ length out
+  pub bytes : take n out ≡ text

@@ -1,21 +1,24 @@
-// The lines of a marking, built in a lent line, and a line given into a lent buffer.
+// The lines of a marking, and a line given into a lent buffer.
 #![tactic(auto)]
 
-ghost use Rattle.std.specs.Prelude.{◌≡◌, ◌+◌, ◌≤◌, ◌<◌, length, take};
-ghost use Rattle.std.proofs.lemmas.List.Edits.{sets};
+ghost use Rattle.std.specs.Prelude.{◌≡◌, ◌+◌, ◌≤◌, ◌<◌, length};
 ghost use Rattle.automata.specs.Word.{Over};
 ghost use Rattle.record.specs.Outcome.{fit, answer_of, buffer_of};
-ghost use Rattle.lines.specs.Lines.{opening, refused_line, dim_line, differ_line, accepted_by, longest, Begun, Begins};
+ghost use Rattle.lines.specs.Lines.{opening, refused_line, dim_line, differ_line, accepted_by, longest};
 
 use compare::Side;
 use record::Written;
+use text::Line;
 
-// The first n bytes of a line into a lent buffer, or refusal 12.
-pub fn give(line: &[u8], n: usize, out: &mut [u8]) -> Written
-    requires { n ≤ length line.now }
-    ensures answer { result ≡ answer_of (fit (length out.old) (take n line.now)) }
-    ensures buffer { out.new ≡ buffer_of (fit (length out.old) (take n line.now)) out.old }
+// A line into a lent buffer, or refusal 12.
+#[tactic(auto, using(record::proofs::Outcome::fit_short, record::proofs::Outcome::fit_done))]
+pub fn give(line: &Line, out: &mut [u8]) -> Written
+    ensures answer { result ≡ answer_of (fit (length out.old) line.now) }
+    ensures buffer { out.new ≡ buffer_of (fit (length out.old) line.now) out.old }
+    ensures room { length line.now ≤ longest }
 {
+    let bytes = line.bytes();
+    let n = bytes.len();
     if out.len() < n {
         return Written::Refused {
             number: 12,
@@ -23,58 +26,67 @@ pub fn give(line: &[u8], n: usize, out: &mut [u8]) -> Written
             place: n,
         };
     }
-    text::put(out, 0, &line[..n]);
+    out[..n].copy_from_slice(bytes);
     Written::Done { length: n }
 }
 
 // How the line of a record starts: its index, words, and a number.
-fn begin(line: &mut [u8], index: usize, words: &[u8], n: usize) -> usize
-    requires { 40 + length words.now ≤ length line.old }
-    ensures { Begun line.old line.new result (opening index words.now n) }
+#[tactic(auto, using(text::proofs::Decimal::decimal_length), unfolding(crate::specs::Lines::opening))]
+fn begin(index: usize, words: &[u8], n: usize) -> Line
+    requires { length words.now ≤ 120 }
+    ensures text { result ≡ opening index words.now n }
+    ensures len { length result ≤ 40 + length words.now }
 {
-    let a = text::put_number(line, 0, index);
-    let b = text::put(line, a, words);
-    text::put_number(line, b, n)
+    let mut line = Line::new();
+    line.push_number(index);
+    line.push(words);
+    line.push_number(n);
+    line
 }
 
 // A refusal's line.
-pub fn refused_line(line: &mut [u8], index: usize, number: usize, place: usize) -> usize
-    requires { longest ≤ length line.old }
-    ensures { Begins line.new result (refused_line index number place) }
+#[tactic(auto, using(text::proofs::Decimal::decimal_length, std::proofs::Common::append_assoc), unfolding(crate::specs::Lines::refused_line))]
+pub fn refused_line(index: usize, number: usize, place: usize) -> Line
+    ensures { result ≡ refused_line index number place }
 {
-    let a = begin(line, index, b" refused ", number);
-    let b = text::put(line, a, b" ");
-    let c = text::put_number(line, b, place);
-    text::put(line, c, b"\n")
+    let mut line = begin(index, b" refused ", number);
+    line.push(b" ");
+    line.push_number(place);
+    line.push(b"\n");
+    line
 }
 
 // A line that says no more than a dimension.
-pub fn dim_line(line: &mut [u8], index: usize, words: &[u8], d: usize) -> usize
-    requires { 41 + length words.now ≤ length line.old }
-    ensures { Begins line.new result (dim_line index words.now d) }
+#[tactic(auto, unfolding(crate::specs::Lines::dim_line))]
+pub fn dim_line(index: usize, words: &[u8], d: usize) -> Line
+    requires { length words.now < 120 }
+    ensures { result ≡ dim_line index words.now d }
 {
-    let a = begin(line, index, words, d);
-    text::put(line, a, b"\n")
+    let mut line = begin(index, words, d);
+    line.push(b"\n");
+    line
 }
 
 // Which record accepts the word, and the end of the line.
-fn put_side(line: &mut [u8], at: usize, side: Side) -> usize
-    requires { at + 20 ≤ length line.old }
-    ensures { (result ≡ at + length (accepted_by side)) × (line.new ≡ sets line.old at (accepted_by side)) }
+fn accepted_by(side: Side) -> &'static [u8]
+    ensures text { result.now ≡ accepted_by side }
+    ensures len { length result.now ≤ 20 }
 {
     match side {
-        Side::First => text::put(line, at, b" accepted-by key\n"),
-        Side::Second => text::put(line, at, b" accepted-by answer\n"),
+        Side::First => b" accepted-by key\n",
+        Side::Second => b" accepted-by answer\n",
     }
 }
 
 // The line of an answer whose words are not the key's.
-pub fn differ_line(line: &mut [u8], index: usize, d: usize, word: &[u8], side: Side) -> usize
-    requires { Over 10 word.now × (length word.now < 64) × (longest ≤ length line.old) }
-    ensures { Begins line.new result (differ_line index d word.now side) }
+#[tactic(auto, using(crate::proofs::Building::word_short, std::proofs::Common::append_assoc), unfolding(crate::specs::Lines::differ_line))]
+pub fn differ_line(index: usize, d: usize, word: &[u8], side: Side) -> Line
+    requires { Over 10 word.now × (length word.now < 64) }
+    ensures { result ≡ differ_line index d word.now side }
 {
-    let a = begin(line, index, b" differ dim ", d);
-    let b = text::put(line, a, b" word ");
-    let c = text::put_word(line, b, word);
-    put_side(line, c, side)
+    let mut line = begin(index, b" differ dim ", d);
+    line.push(b" word ");
+    line.push_word(word);
+    line.push(accepted_by(side));
+    line
 }

@@ -5,18 +5,16 @@ ghost use Rattle.std.specs.Prelude.{◌≡◌, [], ◌∷◌, ◌≤◌, ◌<◌
 ghost use Rattle.record.specs.Record.{WellFormed};
 ghost use Rattle.record.specs.Outcome.{fit, answer_of, buffer_of, answer_in, buffer_in};
 ghost use Rattle.script.specs.Script.{part_at};
-ghost use Rattle.lines.specs.Lines.{longest, Begins};
+ghost use Rattle.lines.specs.Lines.{longest};
 ghost use Rattle.marking.specs.Marking.{dimension_in, key_record_line, answer_line, record_line, part_line, line_at, mark_line, mark_outcome};
 ghost use Rattle.marking.specs.Told.{Marks, SaysRefused};
 
 use compare::Compared;
 use record::{Checked, Written};
 use script::Part;
+use text::Line;
 
 const MAX_SCRIPT: usize = 65536;
-
-// The bytes of a line that is built: no line has more.
-const LONGEST: usize = 160;
 
 // The dimension of a well-formed record's language.
 fn dimension(bytes: &[u8]) -> usize
@@ -29,79 +27,80 @@ fn dimension(bytes: &[u8]) -> usize
 }
 
 // The line of the key.
-fn key_line(line: &mut [u8], key: &[u8]) -> usize
-    requires { longest ≤ length line.old }
-    ensures { Begins line.new result (key_record_line key.now) }
+#[tactic(auto, unfolding(crate::specs::Marking::key_record_line))]
+fn key_line(key: &[u8]) -> Line
+    ensures { result ≡ key_record_line key.now }
 {
     match record::check(key) {
         Checked::Good => {
             let d = dimension(key);
-            lines::dim_line(line, 0, b" key dim ", d)
+            lines::dim_line(0, b" key dim ", d)
         }
-        Checked::Refused { number, place } => lines::refused_line(line, 0, number, place),
+        Checked::Refused { number, place } => lines::refused_line(0, number, place),
     }
 }
 
 // The line of an answer: the verdict of the comparison with the key, and the answer's own dimension. An answer of a script has bytes, so it
 // is no blank.
-fn answer_line(line: &mut [u8], index: usize, key: &[u8], answer: &[u8]) -> usize
-    requires { (longest ≤ length line.old) × (0 < length answer.now) }
-    ensures { Begins line.new result (answer_line index key.now answer.now) }
+fn answer_line(index: usize, key: &[u8], answer: &[u8]) -> Line
+    requires { 0 < length answer.now }
+    ensures { result ≡ answer_line index key.now answer.now }
 {
     let mut word = [0u8; 64];
     match compare::compare(key, answer, &mut word) {
         Compared::Same => {
             let d = dimension(answer);
-            lines::dim_line(line, index, b" same dim ", d)
+            lines::dim_line(index, b" same dim ", d)
         }
         Compared::Differs { length, side } => {
             let own = dimension(answer);
-            lines::differ_line(line, index, own, &word[..length], side)
+            lines::differ_line(index, own, &word[..length], side)
         }
         Compared::Refused {
             number,
             record: _,
             place,
-        } => lines::refused_line(line, index, number, place),
+        } => lines::refused_line(index, number, place),
     }
 }
 
 // The line of a record that stands whole, as that of an index: the key has index 0.
-fn record_line(line: &mut [u8], script: &[u8], index: usize, bytes: &[u8]) -> usize
-    requires { (longest ≤ length line.old) × (0 < length bytes.now) }
-    ensures { Begins line.new result (record_line script.now index bytes.now) }
+#[tactic(auto, unfolding(crate::specs::Marking::record_line, crate::specs::Marking::key_of))]
+fn record_line(script: &[u8], index: usize, bytes: &[u8]) -> Line
+    requires { 0 < length bytes.now }
+    ensures { result ≡ record_line script.now index bytes.now }
 {
     if index == 0 {
-        return key_line(line, bytes);
+        return key_line(bytes);
     }
     let end = walk::key_end(script);
-    answer_line(line, index, &script[..end], bytes)
+    answer_line(index, &script[..end], bytes)
 }
 
 // The line of what stands at a position, as the record of an index: none with 0 bytes left.
-fn part_line(line: &mut [u8], script: &[u8], index: usize, at: usize) -> usize
-    requires { longest ≤ length line.old }
-    ensures { Begins line.new result (part_line script.now index (part_at script.now at)) }
+fn part_line(script: &[u8], index: usize, at: usize) -> Line
+    ensures { result ≡ part_line script.now index (part_at script.now at) }
 {
     match script::part_at(script, at) {
-        Part::Whole { start, next } => record_line(line, script, index, &script[start..next]),
-        Part::Refused { number, place } => lines::refused_line(line, index, number, place),
-        Part::End => 0,
+        Part::Whole { start, next } => record_line(script, index, &script[start..next]),
+        Part::Refused { number, place } => lines::refused_line(index, number, place),
+        Part::End => Line::new(),
     }
 }
 
 // The same, but one line in place of all for a script that is too long.
-fn script_line(line: &mut [u8], script: &[u8], index: usize, at: usize) -> usize
-    requires { longest ≤ length line.old }
-    ensures { Begins line.new result (line_at script.now index at) }
+#[tactic(auto, unfolding(crate::specs::Marking::line_at))]
+fn script_line(script: &[u8], index: usize, at: usize) -> Line
+    ensures { result ≡ line_at script.now index at }
 {
     if MAX_SCRIPT < script.len() {
+        let mut line = Line::new();
         if index == 0 {
-            return text::put(line, 0, b"too long\n");
+            line.push(b"too long\n");
         }
-        return 0;
+        return line;
     }
-    part_line(line, script, index, at)
+    part_line(script, index, at)
 }
 
 // Writes the line of what stands at a position, as the record of an index: what a walk through a script calls, with `walk::past`.
@@ -110,9 +109,8 @@ pub fn line_at(script: &[u8], index: usize, at: usize, out: &mut [u8]) -> Writte
     ensures buffer { out.new ≡ buffer_of (fit (length out.old) (line_at script.now index at)) out.old }
     ensures room { length (line_at script.now index at) ≤ longest }
 {
-    let mut line = [0u8; LONGEST];
-    let n = script_line(&mut line, script, index, at);
-    lines::give(&line, n, out)
+    let line = script_line(script, index, at);
+    lines::give(&line, out)
 }
 
 // The marking service: writes the line of the record of an index, or no bytes where marking ends before it; it refuses only with 12.

@@ -21,7 +21,9 @@ use Rattle.record.proofs.Encode.{letters_encode, check_encode, fields_encode}
 use Rattle.record.proofs.Claims.{minimal_encode}
 use Rattle.operands.specs.Meant.{blank_of, meant_over, as_meant}
 use Rattle.operands.specs.Operands.{pair_of}
-use Rattle.operands.specs.declared.Pair.TheVariants.{Both, Refused}
+use Rattle.std.specs.Prelude.{Ok, Err}
+use Rattle.record.specs.Rules.{refusal}
+use Rattle.record.specs.declared.Rule.TheVariants.{TooShort}
 use Rattle.operands.proofs.PairLaws.{second_met, second_refused, both_pass}
 
 -- ---- the bytes of a blank's record
@@ -96,21 +98,21 @@ blank_operands bs good =
     (good, check_encode (letters_of bs) stateless (omega arith) f.some f.letters, sym (letters_encode (letters_of bs) stateless))
 
 -- A blank is never refused.
-pub blank_passes : (bs : List ℕ) → WellFormed bs → as_meant pair_of bs [] ≡ Both
+pub blank_passes : (bs : List ℕ) → WellFormed bs → as_meant pair_of bs [] ≡ Ok tt
 blank_passes bs good = let p = blank_operands bs good in both_pass bs (blank_of (letters_of bs)) p.0 p.1 p.2
 
 -- ---- refusal 1 of the second record
 
 -- It comes exactly with 1 to 6 bytes, its place their number.
 module _ (bs cs : List ℕ) (good : WellFormed bs) where
-  pub second_short : 0 < length cs → length cs < header → as_meant pair_of bs cs ≡ Refused 1 2 (length cs)
+  pub second_short : 0 < length cs → length cs < header → as_meant pair_of bs cs ≡ Err (refusal TooShort 2 (length cs))
   second_short some few =
-      subst (λ x. pair_of bs x ≡ Refused 1 2 (length cs)) (meant_itself (letters_of bs) cs (λ none. omega arith))
+      subst (λ x. pair_of bs x ≡ Err (refusal TooShort 2 (length cs))) (meant_itself (letters_of bs) cs (λ none. omega arith))
       (second_met bs cs good (check_short cs few))
 
-  pub short_second : (place : ℕ) → as_meant pair_of bs cs ≡ Refused 1 2 place → (0 < length cs) × (length cs < header) × (place ≡ length cs)
+  pub short_second : (place : ℕ) → as_meant pair_of bs cs ≡ Err (refusal TooShort 2 place) → (0 < length cs) × (length cs < header) × (place ≡ length cs)
   short_second place e = go cs e
     where
-      go : (cs : List ℕ) → as_meant pair_of bs cs ≡ Refused 1 2 place → (0 < length cs) × (length cs < header) × (place ≡ length cs)
+      go : (cs : List ℕ) → as_meant pair_of bs cs ≡ Err (refusal TooShort 2 place) → (0 < length cs) × (length cs < header) × (place ≡ length cs)
       go [] q = let z = sym (blank_passes bs good) ∙ q in let y : ◌≡◌ {A = ℕ} 0 1 = cc in absurd (omega arith)
-      go (c ∷ cs) q = let t = short_check (c ∷ cs) place (second_refused bs (c ∷ cs) good 1 place (omega arith) q) in (omega arith, t.0, t.1)
+      go (c ∷ cs) q = let t = short_check (c ∷ cs) place (second_refused bs (c ∷ cs) good TooShort place (omega arith) q) in (omega arith, t.0, t.1)

@@ -2,22 +2,20 @@
 --   named c which rest  a refusal of record `which` is the whole answer; else the rest decides
 --   pair_of bs cs       what the checks of both find
 --   after_pair          what follows them in a service that writes
-use Rattle.std.specs.Prelude.{Bool, cond, List, ℕ, eqb}
+use Rattle.std.specs.Prelude.{cond, List, ℕ, eqb, Ok, Err}
 use Rattle.record.specs.Record.{letters_of, check_of}
+use Rattle.record.specs.Rules.{Check, Checks, refusal}
 use Rattle.record.specs.Outcome.{Outcome, refused}
-use Rattle.record.specs.declared.Checked.{Checked}
-use Rattle.record.specs.declared.Checked.TheVariants.{Good, Refused as Bad}
-use Rattle.operands.specs.declared.Pair.{Pair}
-use Rattle.operands.specs.declared.Pair.TheVariants.{Both, Refused}
+use Rattle.record.specs.declared.Rule.TheVariants.{UnlikeLetters}
 
-abbrev pub named : Checked → ℕ → Pair → Pair
-named Good which rest = rest
-named (Bad number place) which rest = Refused number which place
+abbrev pub named : Check → ℕ → Checks → Checks
+named (Ok u) which rest = rest
+named (Err f) which rest = Err (refusal f.rule which f.place)
 
 -- Row 8 is told of the second record, at its offset 6.
-unfoldable pub pair_of : List ℕ → List ℕ → Pair
-pair_of bs cs = named (check_of bs) 1 (named (check_of cs) 2 (cond (eqb (letters_of bs) (letters_of cs)) Both (Refused 8 2 6)))
+unfoldable pub pair_of : List ℕ → List ℕ → Checks
+pair_of bs cs = named (check_of bs) 1 (named (check_of cs) 2 (cond (eqb (letters_of bs) (letters_of cs)) (Ok tt) (Err (refusal UnlikeLetters 2 6))))
 
-abbrev pub after_pair : Pair → Outcome → Outcome
-after_pair Both rest = rest
-after_pair (Refused number which place) rest = refused number which place
+abbrev pub after_pair : Checks → Outcome → Outcome
+after_pair (Ok u) rest = rest
+after_pair (Err r) rest = refused r.rule r.record r.place

@@ -3,10 +3,10 @@
 
 ghost use Rattle.std.specs.Prelude.{◌≡◌};
 ghost use Rattle.record.specs.Record.{letters_of};
-ghost use Rattle.operands.specs.Meant.{blank_of};
-ghost use Rattle.operands.specs.Operands.{pair_of, named};
+ghost use Rattle.operands.specs.Meant.{blank_of, meant_over};
+ghost use Rattle.operands.specs.Operands.{pair_of};
 
-use record::{Checked, ROWS_AT, VERSION};
+use record::{ROWS_AT, Refusal, Rule, VERSION};
 
 // The bytes of a record with no states: it ends where its rows would start.
 pub const BLANK: usize = ROWS_AT;
@@ -31,51 +31,25 @@ pub fn blank(first: &[u8], out: &mut [u8; BLANK])
     *out = [0x4E, 0x58, 0x41, v, 0, 0, a, 0, 0, 0, 0, 0, 0, 0, 0];
 }
 
-// What the checks of two records find: both pass, over the same letters, or the refusal.
-#[derive(Clone, Copy)]
-pub enum Pair {
-    Both,
-    Refused {
-        number: usize,
-        record: usize,
-        place: usize,
-    },
-}
-
-// A refusal of the record check, for record 1 or 2.
-fn refuse(c: Checked, record: usize) -> Pair
-    ensures { result ≡ named c «record» Pair.Both }
+// The record that the second one stands for: itself, or for 0 bytes the blank, which is written to the room lent for it.
+pub fn meant<'a>(first: &[u8], second: &'a [u8], room: &'a mut [u8; BLANK]) -> &'a [u8]
+    ensures { result.now ≡ meant_over (letters_of first.now) second.now }
 {
-    match c {
-        Checked::Good => Pair::Both,
-        Checked::Refused { number, place } => Pair::Refused {
-            number: number,
-            record: record,
-            place: place,
-        },
+    if second.is_empty() {
+        blank(first, room);
+        return room;
     }
+    second
 }
 
 // Rows 1 to 7 of the first record, then of the second, then row 8.
-pub fn check_pair(first: &[u8], second: &[u8]) -> Pair
+pub fn check_pair(first: &[u8], second: &[u8]) -> Result<(), Refusal>
     ensures { result ≡ pair_of first.now second.now }
 {
-    let left = &*first;
-    let right = &*second;
-    let one = record::check(left);
-    let Checked::Good = one else {
-        return refuse(one, 1);
-    };
-    let two = record::check(right);
-    let Checked::Good = two else {
-        return refuse(two, 2);
-    };
+    record::check_as(first, 1)?;
+    record::check_as(second, 2)?;
     if first[6] != second[6] {
-        return Pair::Refused {
-            number: 8,
-            record: 2,
-            place: 6,
-        };
+        return Err(Rule::UnlikeLetters.of(2, 6));
     }
-    Pair::Both
+    Ok(())
 }

@@ -1,5 +1,6 @@
--- What a reader must believe: Bytes, Record, Outcome, Claims. Held is for the contracts of inner functions.
+-- What a reader must believe: Bytes, Rules, Record, Outcome, Claims. Held is for the contracts of inner functions.
 pub mod Bytes
+pub mod Rules
 pub mod Record
 pub mod Outcome
 pub mod Claims

@@ -1,51 +1,46 @@
 -- What a service that writes does: its answer, and what it leaves in the lent buffer.
---   Outcome     a refusal by number, record and place, or the bytes written from the buffer's start
+--   Outcome     a refusal by row, record and place, or the bytes written from the buffer's start
 --   answer_of   what the service returns
 --   buffer_of   what the buffer holds afterwards
 --   answer_in   the same two of a service whose outcome goes by the room in its buffer
 --   buffer_in
---   refusal_of  the answer to a record that the check refuses
 --   checked     the check of a record, then what follows
 --   fit         row 12 of the refusal table
 --   rewrite_of  a record read and written afresh
-use Rattle.std.specs.Prelude.{ℕ, List, ◌++◌, cond, length, drop, ltb}
+use Rattle.std.specs.Prelude.{ℕ, List, ◌++◌, cond, length, drop, ltb, Result, Ok, Err}
 use Rattle.record.specs.Record.{check_of}
-use Rattle.record.specs.declared.Checked.{Checked}
-use Rattle.record.specs.declared.Checked.TheVariants.{Good, Refused as Bad}
-use Rattle.record.specs.declared.Written.{Written}
-use Rattle.record.specs.declared.Written.TheVariants.{Done, Refused}
+use Rattle.record.specs.Rules.{Check, refusal}
+use Rattle.record.specs.declared.Rule.{Rule}
+use Rattle.record.specs.declared.Rule.TheVariants.{NoRoom}
+use Rattle.record.specs.declared.Refusal.{Refusal}
 
 pub data Outcome : Type 0 where
-  refused : ℕ → ℕ → ℕ → Outcome
+  refused : Rule → ℕ → ℕ → Outcome
   wrote : List ℕ → Outcome
 
-abbrev pub answer_of : Outcome → Written
-answer_of (refused number which place) = Refused number which place
-answer_of (wrote out) = Done (length out)
+abbrev pub answer_of : Outcome → Result ℕ Refusal
+answer_of (refused rule which place) = Err (refusal rule which place)
+answer_of (wrote out) = Ok (length out)
 
 -- A refusal leaves the buffer as it is, and so stay the bytes past those written.
 abbrev pub buffer_of : Outcome → List ℕ → List ℕ
-buffer_of (refused number which place) buf = buf
+buffer_of (refused rule which place) buf = buf
 buffer_of (wrote out) buf = out ++ drop (length out) buf
 
-abbrev pub answer_in : (ℕ → Outcome) → List ℕ → Written
+abbrev pub answer_in : (ℕ → Outcome) → List ℕ → Result ℕ Refusal
 answer_in o buf = answer_of (o (length buf))
 
 abbrev pub buffer_in : (ℕ → Outcome) → List ℕ → List ℕ
 buffer_in o buf = buffer_of (o (length buf)) buf
 
-abbrev pub refusal_of : Checked → ℕ → Written
-refusal_of Good which = Done 0
-refusal_of (Bad number place) which = Refused number which place
-
 -- The record's refusal is the whole answer.
-abbrev pub checked : Checked → ℕ → Outcome → Outcome
-checked Good which rest = rest
-checked (Bad number place) which rest = refused number which place
+abbrev pub checked : Check → ℕ → Outcome → Outcome
+checked (Ok u) which rest = rest
+checked (Err f) which rest = refused f.rule which f.place
 
 -- Row 12, for a buffer of so many bytes.
 unfoldable pub fit : ℕ → List ℕ → Outcome
-fit room out = cond (ltb room (length out)) (refused 12 0 (length out)) (wrote out)
+fit room out = cond (ltb room (length out)) (refused NoRoom 0 (length out)) (wrote out)
 
 -- Rows 1 to 7, then 12. Every byte of a record is a field, so what is written is the record itself.
 unfoldable pub rewrite_of : List ℕ → ℕ → Outcome

@@ -11,15 +11,16 @@
 --   record_accepts bs  whether the record accepts a word that is tested, which may have letters outside the alphabet
 --   machine_of bs      the record's machine over any more letters
 --   encode a A         the record of an automaton over a letters
-use Rattle.std.specs.Prelude.{◌≡◌, Bool, true, false, not, ◌||◌, List, [], ◌∷◌, ◌++◌, ℕ, zero, suc, ◌+◌, ◌*◌, ◌^◌, length, get_or, drop, ltb, leb, eqb}
+use Rattle.std.specs.Prelude.{◌≡◌, Bool, true, false, not, ◌||◌, List, [], ◌∷◌, ◌++◌, ℕ, zero, suc, ◌+◌, ◌*◌, ◌^◌, length, get_or, drop, ltb, leb, eqb, Ok, Err}
 use Rattle.automata.specs.Automaton.{Automaton, accepts}
 use Rattle.automata.specs.Language.{Language, restriction}
 use Rattle.automata.specs.Operations.{widened}
 use Rattle.automata.specs.Mask.{bit_of}
 use Rattle.automata.specs.Fields.{fields}
 use Rattle.record.specs.Bytes.{number, all_bytes}
-use Rattle.record.specs.declared.Checked.{Checked}
-use Rattle.record.specs.declared.Checked.TheVariants.{Good, Refused}
+use Rattle.record.specs.Rules.{Check, fault}
+use Rattle.record.specs.declared.Rule.{Rule}
+use Rattle.record.specs.declared.Rule.TheVariants.{TooShort, WrongMark, WrongVersion, States, Letters, WrongLength, StrayBit}
 
 -- ---- sizes and offsets
 
@@ -70,42 +71,42 @@ row_at bs l i = number row_bytes bs (rows_at + row_bytes * (l * states_of bs + i
 
 -- ---- the record check
 
--- A row of the refusal table: where its condition is met, its number and place; else what the rows after it say.
-abbrev pub row : Bool → ℕ → ℕ → Checked → Checked
-row true number place rest = Refused number place
-row false number place rest = rest
+-- A row of the refusal table: where its condition is met, the row and the place; else what the rows after it say.
+abbrev pub row : Bool → Rule → ℕ → Check → Check
+row true rule place rest = Err (fault rule place)
+row false rule place rest = rest
 
 -- Checks run in the row order: a refusal is the whole answer.
-abbrev pub and_then : Checked → Checked → Checked
-and_then Good rest = rest
-and_then (Refused number place) rest = Refused number place
+abbrev pub and_then : Check → Check → Check
+and_then (Ok u) rest = rest
+and_then (Err f) rest = Err f
 
 -- Row 7 over k fields of w bytes from offset p: the first that has a bit at n or above, that is, is 2 ^ n or more.
-unfoldable pub stray_from : ℕ → ℕ → List ℕ → ℕ → ℕ → Checked
-stray_from w n bs zero p = Good
-stray_from w n bs (suc k) p = row (leb (2 ^ n) (number w bs p)) 7 p (stray_from w n bs k (p + w))
+unfoldable pub stray_from : ℕ → ℕ → List ℕ → ℕ → ℕ → Check
+stray_from w n bs zero p = Ok tt
+stray_from w n bs (suc k) p = row (leb (2 ^ n) (number w bs p)) StrayBit p (stray_from w n bs k (p + w))
 
--- Condition, number and place of rows 1 to 5. Row 2 has a line for each byte of the mark.
-unfoldable pub front_of : List ℕ → Checked
+-- Condition, row and place of rows 1 to 5. Row 2 has a line for each byte of the mark.
+unfoldable pub front_of : List ℕ → Check
 front_of bs =
-    row (ltb (length bs) header) 1 (length bs)
-    (row (not (eqb (get_or bs 0 0) 0x4E)) 2 0
-    (row (not (eqb (get_or bs 1 0) 0x58)) 2 1
-    (row (not (eqb (get_or bs 2 0) 0x41)) 2 2
-    (row (not (eqb (number 2 bs 3) version)) 3 3
-    (row (ltb max_states (states_of bs)) 4 5
-    (row (eqb (letters_of bs) 0 || ltb max_letters (letters_of bs)) 5 6
-    Good))))))
+    row (ltb (length bs) header) TooShort (length bs)
+    (row (not (eqb (get_or bs 0 0) 0x4E)) WrongMark 0
+    (row (not (eqb (get_or bs 1 0) 0x58)) WrongMark 1
+    (row (not (eqb (get_or bs 2 0) 0x41)) WrongMark 2
+    (row (not (eqb (number 2 bs 3) version)) WrongVersion 3
+    (row (ltb max_states (states_of bs)) States 5
+    (row (eqb (letters_of bs) 0 || ltb max_letters (letters_of bs)) Letters 6
+    (Ok tt)))))))
 
 -- Rows 1 to 5, then 6, then 7 over I, F and the a·n rows, which are 2 + a·n fields from offset 7.
-unfoldable pub check_of : List ℕ → Checked
+unfoldable pub check_of : List ℕ → Check
 check_of bs =
     and_then (front_of bs)
-    (row (not (eqb (length bs) (need_of bs))) 6 (need_of bs)
+    (row (not (eqb (length bs) (need_of bs))) WrongLength (need_of bs)
     (stray_from row_bytes (states_of bs) bs (2 + letters_of bs * states_of bs) initial_at))
 
 abbrev pub WellFormed : List ℕ → Type 0
-WellFormed bs = check_of bs ≡ Good
+WellFormed bs = check_of bs ≡ Ok tt
 
 -- ---- records and automata
 

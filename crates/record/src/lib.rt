@@ -5,8 +5,7 @@ ghost use Rattle.std.specs.Prelude.{◌≡◌, ℕ, ◌+◌, ◌*◌, ◌%◌, �
 ghost use Rattle.rows.specs.Row.{mask};
 ghost use Rattle.record.specs.Bytes.{number};
 ghost use Rattle.record.specs.Record.{max_states, max_letters, row_bytes, header, initial_at, rows_at, states_of, letters_of, length_of, front_of, need_of, stray_from, check_of, WellFormed, head_of, encode};
-ghost use Rattle.record.specs.Outcome.{refusal_of};
-ghost use Rattle.record.specs.declared.Checked.TheVariants.{Good};
+ghost use Rattle.record.specs.Rules.{number_of, fault, refusal, refusal_of};
 
 use rows::Row;
 
@@ -26,24 +25,64 @@ pub const FINAL_AT: usize = HEADER + ROW_BYTES;
 
 pub const ROWS_AT: usize = HEADER + 2 * ROW_BYTES;
 
-// What the record check finds: a well-formed record, or the refusal's number and place.
-#[derive(Clone, Copy)]
-pub enum Checked {
-    Good,
-    Refused { number: usize, place: usize },
+// The rows of the refusal table, by their published numbers; 9 has none.
+#[derive(Clone, Copy, PartialEq, Eq)]
+pub enum Rule {
+    TooShort = 1,
+    WrongMark,
+    WrongVersion,
+    States,
+    Letters,
+    WrongLength,
+    StrayBit,
+    UnlikeLetters,
+    Product = 10,
+    Dimension,
+    NoRoom,
+    NoEntry,
+    EmptyWord,
 }
 
-// What a service that writes answers: the number of bytes written, or the refusal.
-#[derive(Clone, Copy)]
-pub enum Written {
-    Done {
-        length: usize,
-    },
-    Refused {
-        number: usize,
-        record: usize,
-        place: usize,
-    },
+// A refusal of the record check: the row whose condition is met, and where in the record.
+#[derive(Clone, Copy, PartialEq, Eq)]
+pub struct Fault {
+    pub rule: Rule,
+    pub place: usize,
+}
+
+// A refusal of a service: a fault of its record 1 or 2, or with record 0 one of none.
+#[derive(Clone, Copy, PartialEq, Eq)]
+pub struct Refusal {
+    pub rule: Rule,
+    pub record: usize,
+    pub place: usize,
+}
+
+impl Rule {
+    // The published number.
+    pub fn number(self) -> usize
+        ensures { result ≡ number_of self }
+    {
+        self as usize
+    }
+
+    // The row's condition, met at a place of the record that is checked.
+    pub fn at(self, place: usize) -> Fault
+        ensures { result ≡ fault self place }
+    {
+        Fault { rule: self, place }
+    }
+
+    // The row's condition, met by one of a service's records, or by none.
+    pub fn of(self, record: usize, place: usize) -> Refusal
+        ensures { result ≡ refusal self «record» place }
+    {
+        Refusal {
+            rule: self,
+            record,
+            place,
+        }
+    }
 }
 
 // A byte as part of a row's number.
@@ -60,16 +99,6 @@ pub fn size(x: u8) -> usize
     x as usize
 }
 
-// A row of the refusal table whose condition is met.
-fn refuse(number: usize, place: usize) -> Checked
-    ensures { result ≡ Checked.Refused number place }
-{
-    Checked::Refused {
-        number: number,
-        place: place,
-    }
-}
-
 // The row in the four bytes from offset p.
 pub fn field_at(bytes: &[u8], p: usize) -> Row
     requires { p + row_bytes ≤ length bytes.now }
@@ -83,36 +112,36 @@ pub fn field_at(bytes: &[u8], p: usize) -> Row
 }
 
 // Rows 1 to 5 of the refusal table, for a record that may have bytes after it.
-pub fn check_front(bytes: &[u8]) -> Checked
+pub fn check_front(bytes: &[u8]) -> Result<(), Fault>
     ensures { result ≡ front_of bytes.now }
 {
     let len = bytes.len();
     if len < HEADER {
-        return refuse(1, len);
+        return Err(Rule::TooShort.at(len));
     }
     if bytes[0] != 0x4E {
-        return refuse(2, 0);
+        return Err(Rule::WrongMark.at(0));
     }
     if bytes[1] != 0x58 {
-        return refuse(2, 1);
+        return Err(Rule::WrongMark.at(1));
     }
     if bytes[2] != 0x41 {
-        return refuse(2, 2);
+        return Err(Rule::WrongMark.at(2));
     }
     if size(bytes[3]) + 256 * size(bytes[4]) != VERSION {
-        return refuse(3, 3);
+        return Err(Rule::WrongVersion.at(3));
     }
     if MAX_STATES < size(bytes[5]) {
-        return refuse(4, 5);
+        return Err(Rule::States.at(5));
     }
     let a = size(bytes[6]);
     if a == 0 {
-        return refuse(5, 6);
+        return Err(Rule::Letters.at(6));
     }
     if MAX_LETTERS < a {
-        return refuse(5, 6);
+        return Err(Rule::Letters.at(6));
     }
-    Checked::Good
+    Ok(())
 }
 
 // The length that n states and a letters need.
@@ -125,7 +154,7 @@ pub fn length_of(n: usize, a: usize) -> usize
 
 // The length that the sizes of a record that passes rows 1 to 5 need.
 pub fn need(bytes: &[u8]) -> usize
-    requires { front_of bytes.now ≡ Good }
+    requires { front_of bytes.now ≡ Ok tt }
     ensures { result ≡ need_of bytes.now }
 {
     length_of(size(bytes[5]), size(bytes[6]))
@@ -147,7 +176,7 @@ fn all_fields(bytes: &[u8], k: usize) -> Row
 }
 
 // Row 7 over k fields, one after another.
-fn find_stray(bytes: &[u8], n: usize, k: usize) -> Checked
+fn find_stray(bytes: &[u8], n: usize, k: usize) -> Result<(), Fault>
     requires { (n ≤ max_states) × (initial_at + row_bytes * k ≤ length bytes.now) }
     ensures { result ≡ stray_from row_bytes n bytes.now k initial_at }
 {
@@ -155,51 +184,44 @@ fn find_stray(bytes: &[u8], n: usize, k: usize) -> Checked
     let mut place = INITIAL_AT;
     while place < end {
         if !rows::within(field_at(bytes, place), n) {
-            return refuse(7, place);
+            return Err(Rule::StrayBit.at(place));
         }
         place += ROW_BYTES;
     }
-    Checked::Good
+    Ok(())
 }
 
 // Row 7 over k fields. That all pass is told at once; where the first that does not stands, by a search.
-fn check_fields(bytes: &[u8], n: usize, k: usize) -> Checked
+fn check_fields(bytes: &[u8], n: usize, k: usize) -> Result<(), Fault>
     requires { (n ≤ max_states) × (initial_at + row_bytes * k ≤ length bytes.now) }
     ensures { result ≡ stray_from row_bytes n bytes.now k initial_at }
 {
     if rows::within(all_fields(bytes, k), n) {
-        return Checked::Good;
+        return Ok(());
     }
     find_stray(bytes, n, k)
 }
 
 // The record check.
-pub fn check(bytes: &[u8]) -> Checked
+pub fn check(bytes: &[u8]) -> Result<(), Fault>
     ensures { result ≡ check_of bytes.now }
 {
-    let front = check_front(bytes);
-    let Checked::Good = front else {
-        return front;
-    };
+    check_front(bytes)?;
     let whole = need(bytes);
     if bytes.len() != whole {
-        return refuse(6, whole);
+        return Err(Rule::WrongLength.at(whole));
     }
     let n = size(bytes[5]);
     let a = size(bytes[6]);
     check_fields(bytes, n, 2 + a * n)
 }
 
-// A refusal of the record check, as the answer of a service for its record 1 or 2.
-pub fn refused(c: Checked, record: usize) -> Written
-    ensures { result ≡ refusal_of c «record» }
+// The record check, for a service: record is 1 or 2.
+pub fn check_as(bytes: &[u8], record: usize) -> Result<(), Refusal>
+    ensures { result ≡ refusal_of (check_of bytes.now) «record» }
 {
-    match c {
-        Checked::Good => Written::Done { length: 0 },
-        Checked::Refused { number, place } => Written::Refused {
-            number: number,
-            record: record,
-            place: place,
-        },
+    match check(bytes) {
+        Ok(()) => Ok(()),
+        Err(fault) => Err(fault.rule.of(record, fault.place)),
     }
 }

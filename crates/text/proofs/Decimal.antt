@@ -2,13 +2,13 @@
 use mathlib.Core.Path.{◌≡◌, refl, sym, ap, ◌∙◌}
 use mathlib.Core.List.{List, [], ◌∷◌, ◌++◌}
 use Prim.Native.Nat.{ℕ, zero, suc, ◌+◌, ◌-◌, ◌*◌, ◌/◌, ◌%◌, ◌^◌, ◌≤◌, ◌<◌}
-use native.Mathlib.Nat.{pow-suc, div-lt_iff_lt-mul}
+use native.Mathlib.Numerals.{add-one}
 use native.Mathlib.Decide.{dec_lt}
 use native.Mathlib.Omega.{arith}
 use borrow.Author.Tests.{lt-ltb, le-ltb}
-use lib.ListN.{length, get_or, set, length-append, get_or-append}
-use lib.Seq.{sets}
-use Rattle.record.proofs.Stores.{sets_then}
+use lib.ListN.{length, get_or, length-append, get_or-append}
+use Rattle.std.specs.Fmt.{decimal as printed}
+use Rattle.std.proofs.lemmas.Fmt.{decimal_from_appends, length-decimal-le, length-decimal-le_succ}
 use Rattle.text.specs.Text.{digit, figures, decimal}
 
 -- ---- the figures of a number
@@ -100,23 +100,10 @@ decimal_front =
     rw (decimal_more n h, get_or-append (decimal (n / 10)) (digit (n % 10) ∷ []) 0 0 (decimal_some (n / 10)))
     (rest (omega arith)))
 
--- A number below 10 ^ (k + 1) has at most k + 1 figures.
-figures_most : (k n : ℕ) → n < 10 ^ suc k → length (decimal n) ≤ suc k
-figures_most zero n h = let e = length_one n h in omega arith
-figures_most (suc k) n h = go (dec_lt n 10) (figures_most k (n / 10) ((div-lt_iff_lt-mul (omega arith)).1 (rw (pow-suc 10 (suc k)) at h)))
-  where
-    go : Dec (n < 10) → length (decimal (n / 10)) ≤ suc k → length (decimal n) ≤ suc (suc k)
-    go (yes p) rest = let e = length_one n p in omega arith
-    go (no p) rest = let e = length_more n (omega arith) in omega arith
+-- They are those that the library prints.
+decimal_printed : (n : ℕ) → n < 2 ^ 64 → decimal n ≡ printed n
+unfolding decimal
+decimal_printed n h = decimal_from_appends figures (record { one = figures_one; more = figures_more }) (suc n) n h (rw add-one at (length-decimal-le_succ n h))
 
 pub decimal_length : (n : ℕ) → n < 2 ^ 64 → length (decimal n) ≤ 20
-decimal_length n h = figures_most 19 n (omega arith)
-
--- ---- figures stored
-
-module _ (l : List ℕ) (at n : ℕ) where
-  pub stored_one : n < 10 → set l at (digit n) ≡ sets l at (decimal n)
-  stored_one h = sym (ap (sets l at) (decimal_one n h))
-
-  pub stored_more : (last : ℕ) → 10 ≤ n → last ≡ at + length (decimal (n / 10)) → set (sets l at (decimal (n / 10))) last (digit (n % 10)) ≡ sets l at (decimal n)
-  stored_more last h e = sym (ap (sets l at) (decimal_more n h) ∙ sets_then (decimal (n / 10)) (digit (n % 10) ∷ []) l at last (sym e))
+decimal_length n h = rw (decimal_printed n h) (length-decimal-le 20 n (omega arith) (omega arith) h)

@@ -3,7 +3,7 @@ use mathlib.Core.Path.{◌≡◌, refl, sym, ap, ap₂, subst, ◌∙◌}
 use mathlib.Core.Bool.{Bool, true, false, cond}
 use mathlib.Core.List.{List, [], ◌∷◌, ◌++◌}
 use mathlib.Core.Option.{none, some}
-use Prim.Native.Nat.{ℕ, zero, suc, ◌+◌, ◌<◌, ◌≤◌}
+use Prim.Native.Nat.{ℕ, zero, suc, ◌+◌, ◌^◌, ◌<◌, ◌≤◌}
 use native.Mathlib.Numerals.{add-one}
 use native.Mathlib.Omega.{arith}
 use lib.ListN.{length}
@@ -27,8 +27,10 @@ use Rattle.hunt.specs.Hunt.{shared}
 use Rattle.hunt.proofs.BothLaws.{paired_sizes}
 use Rattle.triangular.specs.Triangular.{InSpan}
 use Rattle.verdict.specs.Rows.{both_of, RowOf}
+use Rattle.verdict.specs.declared.Side.{Side}
+use Rattle.verdict.specs.Side.{side_of}
 use Rattle.verdict.specs.Judged.{Found}
-use Rattle.verdict.proofs.RowLaws.{row_start, row_next, row_differs, row_first}
+use Rattle.verdict.proofs.RowLaws.{row_start, row_next, row_below, row_differs, row_first}
 use Rattle.unary.specs.Powers.{power, power_row, Powers}
 use Rattle.unary.proofs.Unary.{first_power_lem, no_power, no_more}
 
@@ -107,11 +109,15 @@ module _ (bs cs : List ℕ) (m : Machine) (P : Paired bs cs m) where
           (λ r g. ap (λ v. by_in v (suc r)) l ∙ linked_by w (k + 1) k 0 inside (suc r) (omega arith) ∙ R.by r g)
           (ap₂ by_in l (sym (add-one k)) ∙ linked_by_new w (k + 1) k 0 inside R.trail)
 
+      -- The parity of its row with the final column tells whether just one accepts it.
+      pub powers_told : (r t : Bool) → ((n : ℕ) → y < 2 ^ n → r ≡ shared n y (mask m.finals)) → r ≡ t → shared m.states y (mask m.finals) ≡ t
+      powers_told r t p q = sym (p m.states (row_below bs cs m P (power (suc k)) y powers_row)) ∙ q
+
       -- One letter more, and just one accepts.
-      pub powers_found : (first : Bool) → first ≡ shared (states_of bs) (number row_bytes bs final_at) y → shared m.states y (mask m.finals) ≡ true → Found (letters_of bs) A B w' (k + 1) first
-      powers_found first s t = rw add-one (subst (λ a. Found a A B w' (suc k) first) (sym one ∙ P.letters) (record {
+      pub powers_found : (side : Side) → side ≡ side_of (shared (states_of bs) (number row_bytes bs final_at) y) → shared m.states y (mask m.finals) ≡ true → Found (letters_of bs) A B w' (k + 1) side
+      powers_found side s t = rw add-one (subst (λ a. Found a A B w' (suc k) side) (sym one ∙ P.letters) (record {
         word = some_difference 1 A B (power (suc k)) (first_power_lem A B (suc k) (row_differs bs cs m P (power (suc k)) y powers_row ∙ t) (λ i g. R.none i (omega arith))) ∙ ap some (sym long);
-        side = s ∙ row_first bs cs m P (power (suc k)) y powers_row ∙ ap (accepts A) (sym long);
+        side = s ∙ ap side_of (row_first bs cs m P (power (suc k)) y powers_row ∙ ap (accepts A) (sym long));
         traced = traced_powers w' (suc k) from' by' (omega (arith, inside));
       }))
         where

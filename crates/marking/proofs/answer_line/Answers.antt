@@ -14,7 +14,6 @@ use Rattle.operands.proofs.MeantLaws.{meant_itself}
 use Rattle.compare.specs.Compare.{compare_outcome, compare_answer}
 use Rattle.compare.specs.declared.Compared.TheVariants.{Same}
 use Rattle.lines.specs.Lines.{same_line}
-use Rattle.lines.proofs.Building.{begins_as}
 use Rattle.compare.proofs.CompareLaws.{Written, Case, case}
 use Rattle.marking.proofs.Verdicts.{answer_refused, answer_same, found_line, checks_refused}
 use borrow.Author.Rules.{rules}
@@ -24,7 +23,7 @@ use Rattle.marking.proofs.answer_line.Goals as goal
 -- The answer has bytes, so it stands for itself.
 meant : (c : After-compare) → meant_over (letters_of c.args.key.now) c.args.answer.now ≡ c.args.answer.now
 meant c =
-    sym (meant_itself (letters_of c.args.key.now) c.args.answer.now (λ none. omega (arith, c.requires.1)))
+    sym (meant_itself (letters_of c.args.key.now) c.args.answer.now (λ none. omega (arith, c.requires)))
 
 -- What the comparison tells, with room for 64 letters.
 verdict : (c : After-compare) → Case c.args.key.now c.args.answer.now 64 c.compare.result
@@ -63,24 +62,23 @@ differ_line-requires c =
     let f = found (goal.at.slice_bounds-differ_line-end c).In-Differs in
     let w = is_word (goal.at.slice_bounds-differ_line-end c).In-Differs in
     let small = (good_check _ (both_passed _ _ f.difference.both).0).front.letters in
-    (subst (Over 10) (sym w) (over_more (omega arith) f.difference.word f.difference.first.over), omega (arith, ap length w, f.difference.short.0), omega (arith, c.requires.0))
+    (subst (Over 10) (sym w) (over_more (omega arith) f.difference.word f.difference.first.over), omega (arith, ap length w, f.difference.short.0))
 
 pub returns-in-Same : goal.returns-in-Same
 returns-in-Same c =
     let a = c.args in
     let v = verdict-same (goal.at.returns-in-Same c).In-Same in
-    begins_as (ap (same_line a.index) c.dimension-d.ensures ∙ sym (answer_same a.index a.key.now a.answer.now v.0 v.1)) c.dim_line.ensures
+    c.dim_line.ensures ∙ ap (same_line a.index) c.dimension-d.ensures ∙ sym (answer_same a.index a.key.now a.answer.now v.0 v.1)
 
 pub returns-in-Differs : goal.returns-in-Differs
 returns-in-Differs c =
     let a = c.args in
-    begins_as
-    (found_line a.index a.key.now a.answer.now (found (goal.at.returns-in-Differs c).In-Differs) c.dimension-own.ensures (is_word (goal.at.returns-in-Differs c).In-Differs))
-    c.differ_line.ensures
+    let h = (goal.at.returns-in-Differs c).In-Differs in
+    c.differ_line.ensures ∙ found_line a.index a.key.now a.answer.now (found h) c.dimension-own.ensures (is_word h)
 
 pub returns-in-Refused : goal.returns-in-Refused
 returns-in-Refused c =
     let a = c.args in
     let told = c.in-Refused in
     let e = subst (Case a.key.now a.answer.now 64) told.is (verdict (goal.at.returns-in-Refused c).After-compare) in
-    begins_as (sym (answer_refused a.index a.key.now a.answer.now told.number told.record told.place (checks_refused a.key.now a.answer.now 64 told.number told.record told.place (omega arith) e))) c.refused_line.ensures
+    c.refused_line.ensures ∙ sym (answer_refused a.index a.key.now a.answer.now told.number told.record told.place (checks_refused a.key.now a.answer.now 64 told.number told.record told.place (omega arith) e))

@@ -9,7 +9,7 @@ invariant_of-mirror c = record { valid = transposed_bounded _ _ _ _ _ _ c.requir
 pub fold-g-requires : goal.fold-g-requires
 fold-g-requires c =
     let X = c.explore-s.ensures in
-    (c.requires.0, X.found.base, X.found.basis.unit, explored_low _ _ _ _ _ _ _ _ _ X, c.transposed.ensures.size)
+    (c.requires.0, X.found.basis.unit, explored_low _ _ _ _ _ _ _ _ _ X)
 
 pub invariant_of-folded : goal.invariant_of-folded
 invariant_of-folded c = record { valid = rw c.fold-g.ensures.0 c.fold-g.ensures.1.bounded }

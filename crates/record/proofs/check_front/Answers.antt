@@ -1,33 +1,34 @@
 -- `check_front`: each return is one law of rows 1 to 5.
-use mathlib.Core.Path.{◌∙◌}
+use mathlib.Core.Path.{ap, ◌∙◌}
+use Rattle.std.specs.Prelude.{Err}
 use native.Mathlib.Omega.{arith}
 use Rattle.record.proofs.Bytes.{number_2}
 use Rattle.record.proofs.Refusals.{short_met, mark₀_met, mark₁_met, mark₂_met, version_met, states_met, no_letter_met, letters_met, front_pass}
 use Rattle.record.proofs.check_front.Goals as goal
 
 pub returns-then-len-lt-HEADER : goal.returns-then-len-lt-HEADER
-returns-then-len-lt-HEADER c = c.refuse.ensures ∙ short_met _ (omega arith)
+returns-then-len-lt-HEADER c = ap Err c.at.ensures ∙ short_met _ (omega arith)
 
 pub returns-then-bytes-ne78 : goal.returns-then-bytes-ne78
-returns-then-bytes-ne78 c = c.refuse-then-bytes-ne78.ensures ∙ mark₀_met _ (omega arith) c.if-bytes-ne78.true
+returns-then-bytes-ne78 c = ap Err c.at-then-bytes-ne78.ensures ∙ mark₀_met _ (omega arith) c.if-bytes-ne78.true
 
 pub returns-then-bytes-ne88 : goal.returns-then-bytes-ne88
-returns-then-bytes-ne88 c = c.refuse-then-bytes-ne88.ensures ∙ mark₁_met _ (omega arith) (omega arith) c.if-bytes-ne88.true
+returns-then-bytes-ne88 c = ap Err c.at-then-bytes-ne88.ensures ∙ mark₁_met _ (omega arith) (omega arith) c.if-bytes-ne88.true
 
 pub returns-then-bytes-ne65 : goal.returns-then-bytes-ne65
-returns-then-bytes-ne65 c = c.refuse-then-bytes-ne65.ensures ∙ mark₂_met _ (omega arith) (omega arith) (omega arith) c.if-bytes-ne65.true
+returns-then-bytes-ne65 c = ap Err c.at-then-bytes-ne65.ensures ∙ mark₂_met _ (omega arith) (omega arith) (omega arith) c.if-bytes-ne65.true
 
 pub returns-then-size-ne-VERSION : goal.returns-then-size-ne-VERSION
-returns-then-size-ne-VERSION c = c.refuse-then-size-ne-VERSION.ensures ∙ version_met _ (omega arith) (omega arith) (omega arith) (omega arith) (λ e. let f = rw number_2 at e in c.if-size-ne-VERSION.true (omega arith))
+returns-then-size-ne-VERSION c = ap Err c.at-then-size-ne-VERSION.ensures ∙ version_met _ (omega arith) (omega arith) (omega arith) (omega arith) (λ e. let f = rw number_2 at e in c.if-size-ne-VERSION.true (omega arith))
 
 pub returns-then-size-gt-MAX_STATES : goal.returns-then-size-gt-MAX_STATES
-returns-then-size-gt-MAX_STATES c = c.refuse-then-size-gt-MAX_STATES.ensures ∙ states_met _ (omega arith) (omega arith) (omega arith) (omega arith) (rw number_2 (omega arith)) (omega arith)
+returns-then-size-gt-MAX_STATES c = ap Err c.at-then-size-gt-MAX_STATES.ensures ∙ states_met _ (omega arith) (omega arith) (omega arith) (omega arith) (rw number_2 (omega arith)) (omega arith)
 
 pub returns-then-a-eq0 : goal.returns-then-a-eq0
-returns-then-a-eq0 c = c.refuse-then-a-eq0.ensures ∙ no_letter_met _ (omega arith) (omega arith) (omega arith) (omega arith) (rw number_2 (omega arith)) (omega arith) (omega arith)
+returns-then-a-eq0 c = ap Err c.at-then-a-eq0.ensures ∙ no_letter_met _ (omega arith) (omega arith) (omega arith) (omega arith) (rw number_2 (omega arith)) (omega arith) (omega arith)
 
 pub returns-then-a-gt-MAX_LETTERS : goal.returns-then-a-gt-MAX_LETTERS
-returns-then-a-gt-MAX_LETTERS c = c.refuse-then-a-gt-MAX_LETTERS.ensures ∙ letters_met _ (omega arith) (omega arith) (omega arith) (omega arith) (rw number_2 (omega arith)) (omega arith) (λ e. omega arith) (omega arith)
+returns-then-a-gt-MAX_LETTERS c = ap Err c.at-then-a-gt-MAX_LETTERS.ensures ∙ letters_met _ (omega arith) (omega arith) (omega arith) (omega arith) (rw number_2 (omega arith)) (omega arith) (λ e. omega arith) (omega arith)
 
 pub returns : goal.returns
 returns c = front_pass _ (omega arith) (omega arith) (omega arith) (omega arith) (rw number_2 (omega arith)) (omega arith) (λ e. omega arith) (omega arith)

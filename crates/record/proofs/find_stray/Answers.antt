@@ -1,6 +1,7 @@
 -- `find_stray`: what is left of row 7, from the field at hand, decides the whole.
 use native.Mathlib.Nat.{sub-zero}
-use mathlib.Core.Path.{sym, ◌∙◌}
+use mathlib.Core.Path.{sym, ap, ◌∙◌}
+use Rattle.std.specs.Prelude.{Err}
 use native.Mathlib.Omega.{arith}
 use borrow.Author.Tests.{ltb-true, ltb-false}
 use Rattle.record.proofs.Refusals.{passed_next, stray_met, stray_pass, stray_done}
@@ -21,12 +22,12 @@ field_at-requires c = omega arith
 pub within-requires : goal.within-requires
 within-requires c = omega arith
 
-pub refuse-requires : goal.refuse-requires
-refuse-requires c = omega arith
+pub at-requires : goal.at-requires
+at-requires c = omega arith
 
 pub returns-then-not-within : goal.returns-then-not-within
 returns-then-not-within c =
-    c.refuse.ensures
+    ap Err c.at.ensures
     ∙ sym
     (c.loop-place.invariant.2
     ∙ stray_met _ _ _ _ (omega arith)
