@@ -18,6 +18,7 @@ use Rattle.rows.specs.declared.Machine.{Machine}
 use Rattle.rows.specs.Row.{mask}
 use Rattle.rows.specs.Table.{blocks}
 use Rattle.rows.specs.Product.{product}
+use Rattle.trail.specs.declared.Step.{Step}
 use Rattle.trail.specs.Trail.{trail_size, from_in, by_in, word_in, linked, Traced}
 use Rattle.trail.proofs.LinkLaws.{linked_from_new, linked_by_new}
 use Rattle.record.specs.Bytes.{number}
@@ -33,7 +34,7 @@ use Rattle.verdict.proofs.RowLaws.{row_start, row_next, row_below, row_differs, 
 
 -- ---- the trail of one letter
 
-module _ (a l : ℕ) (w w' : List ℕ) (t : length w ≡ trail_size) (e : w' ≡ linked w 1 0 l) where
+module _ (a l : ℕ) (w w' : List Step) (t : length w ≡ trail_size) (e : w' ≡ linked w 1 0 l) where
   from_one : from_in w' 1 ≡ 0
   from_one = ap (λ v. from_in v 1) e ∙ linked_from_new w 1 0 l (omega arith) t
 
@@ -75,7 +76,7 @@ module _ (bs cs : List ℕ) (m : Machine) (P : Paired bs cs m) (empty : shared m
     pub letter_tried : shared m.states y (mask m.finals) ≡ false → accepts A (l ∷ []) ⊕ accepts B (l ∷ []) ≡ false
     letter_tried t = row_differs bs cs m P (l ∷ []) y letter_row ∙ t
 
-    pub letter_found : (w w' : List ℕ) → length w ≡ trail_size → w' ≡ linked w 1 0 l → (s : Side) → s ≡ side_of (shared (states_of bs) (number row_bytes bs final_at) y) → shared m.states y (mask m.finals) ≡ true
+    pub letter_found : (w w' : List Step) → length w ≡ trail_size → w' ≡ linked w 1 0 l → (s : Side) → s ≡ side_of (shared (states_of bs) (number row_bytes bs final_at) y) → shared m.states y (mask m.finals) ≡ true
         → ((x : ℕ) → x < l → accepts A (x ∷ []) ⊕ accepts B (x ∷ []) ≡ false) → Found (letters_of bs) A B w' 1 s
     letter_found w w' t q s e' d before = subst (λ a. Found a A B w' 1 s) P.letters (record {
       word = some_difference m.letters A B (l ∷ []) (record { over = (h, tt); differs = row_differs bs cs m P (l ∷ []) y letter_row ∙ d; first = λ u o g. xor_zero (earlier u g) }) ∙ ap some (sym (word_one m.letters l w w' t q));

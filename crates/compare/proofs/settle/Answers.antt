@@ -33,7 +33,7 @@ traced : (c : After-size-a) → Traced c.size-a.result c.in-Some.apart.row c.com
 traced c = rw c.size-a.ensures.0 (rw c.in-Some.is at c.compare-v.ensures).traced
 
 pub compare-v-requires : goal.compare-v-requires
-compare-v-requires c = (both_passed _ _ c.requires, refl)
+compare-v-requires c = (both_passed _ _ c.requires, c.empty-w.ensures)
 
 pub returns-in_default : goal.returns-in_default
 unfolding difference_of
