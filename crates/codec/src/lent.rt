@@ -23,14 +23,16 @@ pub fn read(lent: Record, t: &mut Table) -> Machine
     requires { length t.old ≡ table_size }
     ensures { Holds lent.entry.bytes.now t.new result }
 {
-    let a = lent.letters();
-    for l in 0..a {
+    let letters = lent.letters();
+    for l in 0..letters {
         read_block(lent, l, t);
     }
+    let initial = lent.initial();
+    let finals = lent.finals();
     Machine {
         states: lent.states(),
-        letters: a,
-        initial: lent.initial(),
-        finals: lent.finals(),
+        letters,
+        initial,
+        finals,
     }
 }

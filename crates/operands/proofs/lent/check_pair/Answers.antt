@@ -1,5 +1,6 @@
 -- `check_pair`: each return is one case of the law.
 use mathlib.Core.Path.{sym, ap, ◌∙◌}
+use native.Mathlib.Omega.{arith}
 use Rattle.std.specs.Prelude.{Err}
 use Rattle.record.proofs.Refusals.{returned}
 use Rattle.operands.proofs.PairLaws.{first_told, second_told, letters_met}
@@ -20,4 +21,4 @@ returns-then-letters c =
     let two = rw c.in_ok-right.ensures at c.in_ok-right.right.well_formed in
     let a = rw c.in_ok-left.ensures at c.letters.ensures.value in
     let b = rw c.in_ok-right.ensures at c.letters-2.ensures.value in
-    ap Err c.of.ensures ∙ sym (letters_met _ _ one two (λ e. c.if-letters.true (a ∙ e ∙ sym b)))
+    ap Err c.of.ensures ∙ sym (letters_met _ _ one two (λ e. omega (arith, c.if-letters.true, a, b, e)))
