@@ -7,9 +7,9 @@ use native.Mathlib.Omega.{arith}
 use lib.Dec.{ltb}
 use Rattle.text.specs.Text.{ascii, digit, figures, decimal, word_text}
 use Rattle.text.proofs.Decimal.{decimal_injective}
-use Rattle.compare.specs.declared.Side.{Side}
+use Rattle.verdict.specs.declared.Side.{Side}
 use Rattle.compare.proofs.CompareLaws.{clash}
-use Rattle.compare.specs.declared.Side.TheVariants.{First, Second}
+use Rattle.verdict.specs.declared.Side.TheVariants.{First, Second}
 use Rattle.lines.specs.Lines.{opening, refused_line, dim_line, key_line, same_line, accepted_by, differ_line, too_long_line}
 
 -- ---- no figure is a space

@@ -9,7 +9,7 @@ use Rattle.record.specs.Record.{language_of}
 use Rattle.operands.specs.Operands.{pair_of}
 use Rattle.operands.specs.declared.Pair.TheVariants.{Both, Refused as NotBoth}
 use Rattle.compare.specs.Compare.{difference_of, side_of}
-use Rattle.compare.specs.declared.Side.{Side}
+use Rattle.verdict.specs.declared.Side.{Side}
 use Rattle.compare.specs.declared.Compared.TheVariants.{Refused}
 use Rattle.compare.proofs.CompareLaws.{Written, Case}
 use Rattle.lines.specs.Lines.{refused_line, same_line, differ_line}

@@ -14,7 +14,7 @@ use Rattle.record.specs.Claims.{HasDimension, Operands, SameWords}
 use Rattle.record.specs.declared.Written.{Written}
 use Rattle.record.specs.declared.Written.TheVariants.{Done}
 use Rattle.compare.specs.Compare.{Differ}
-use Rattle.compare.specs.declared.Side.{Side}
+use Rattle.verdict.specs.declared.Side.{Side}
 use Rattle.script.specs.Script.{part_at, bytes_at}
 use Rattle.script.specs.declared.Part.TheVariants.{Whole}
 use Rattle.lines.specs.Lines.{refused_line, key_line, same_line, differ_line}

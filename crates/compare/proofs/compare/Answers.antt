@@ -1,35 +1,28 @@
--- `compare`: both records as they are meant.
-use mathlib.Core.Path.{◌≡◌, sym, ap, subst, ◌∙◌}
-use mathlib.Core.List.{List}
-use Prim.Native.Nat.{ℕ}
-use native.Mathlib.Omega.{arith}
+-- `compare`: a refusal of the checks, or the answer of `settle`, of both records as they are meant; the claims follow from the answer and
+-- the buffer.
+use mathlib.Core.Path.{sym, ap, ◌∙◌}
 use lib.ListN.{length}
-use Rattle.record.specs.Record.{letters_of}
-use Rattle.record.specs.Outcome.{buffer_in}
-use Rattle.operands.proofs.MeantLaws.{blank_length, meant_blank, meant_itself}
-use Rattle.compare.specs.Compare.{compare_outcome, compare_answer, Compares}
-use Rattle.compare.specs.declared.Compared.{Compared}
-use borrow.Author.Rules.{rules}
+use Rattle.record.specs.Record.{letters_of, automaton_of}
+use Rattle.record.specs.Outcome.{buffer_of}
+use Rattle.record.proofs.Refusals.{returned}
+use Rattle.operands.specs.Meant.{meant_over}
+use Rattle.compare.specs.Compare.{difference_of, compared_as}
+use Rattle.compare.proofs.CompareLaws.{outcome_refused}
+use Rattle.compare.proofs.Claims.{claims}
 use Rattle.compare.proofs.compare.Goals as goal
 
--- What is promised of two records that stand for themselves.
-abbrev Promises : List ℕ → List ℕ → List ℕ → Compared → List ℕ → Type 0
-Promises bs buf exit r cs = (r ≡ compare_answer bs cs (length buf)) × ((exit ≡ buffer_in (compare_outcome bs cs) buf) × Compares bs cs buf exit r)
+pub returns-in_err-check_pair : goal.returns-in_err-check_pair
+returns-in_err-check_pair c =
+    let bs = c.args.first.now in
+    let cs = meant_over (letters_of bs) c.args.second.now in
+    let buf = c.args.word.now in
+    let o = sym (outcome_refused bs cs (length buf) _ (sym (rw c.meant-right.ensures at c.in_err-check_pair.ensures))) in
+    let answer = returned c.from_residual.result c.from_residual.ensures.1 ∙ ap (compared_as (difference_of bs cs) (automaton_of bs)) o in
+    let buffer = ap (λ x. buffer_of x buf) o in
+    record { answer = answer; buffer = buffer; claims = claims bs cs buf buf _ answer buffer }
 
-pub slice_bounds-compare_meant-end : goal.slice_bounds-compare_meant-end
-slice_bounds-compare_meant-end c = let l = sym (ap length c.blank.ensures ∙ blank_length _) in search rules
-
-pub returns-then-second-eq0 : goal.returns-then-second-eq0
-returns-then-second-eq0 c =
-    let a = c.args in
-    let b = c.blank in
-    let m = c.compare_meant in
-    let p = subst (Promises a.first.now a.word.now m.new.word m.result) (meant_blank (letters_of a.first.now) b.new.out a.second.now (omega (arith, c.if-second-eq0.true)) b.ensures) (m.ensures.answer, (m.ensures.buffer, m.ensures.claims)) in
-    record { answer = p.0; buffer = p.1.0; claims = p.1.1 }
-
-pub returns : goal.returns
-returns c =
-    let a = c.args in
-    let m = c.compare_meant-2 in
-    let p = subst (Promises a.first.now a.word.now m.new.word m.result) (meant_itself (letters_of a.first.now) a.second.now (λ none. omega (arith, c.if-second-eq0.false))) (m.ensures.answer, (m.ensures.buffer, m.ensures.claims)) in
-    record { answer = p.0; buffer = p.1.0; claims = p.1.1 }
+pub returns-clause-claims : goal.returns-clause-claims
+returns-clause-claims c =
+    let bs = c.args.first.now in
+    let s = rw c.meant-right.ensures at c.settle.ensures in
+    claims bs (meant_over (letters_of bs) c.args.second.now) c.args.word.now c.settle.new.word c.settle.result s.answer s.buffer

@@ -12,26 +12,28 @@ use Rattle.record.specs.Outcome.{buffer_of}
 use Rattle.record.proofs.Refusals.{good_check}
 use Rattle.record.proofs.Outcome.{fit_short, fit_done}
 use Rattle.operands.proofs.PairLaws.{both_passed}
-use Rattle.compare.specs.Compare.{difference_of, side_of}
-use Rattle.compare.specs.declared.Compared.TheVariants.{Differs, Refused}
+use Rattle.std.specs.Prelude.{Ok, Err, Some}
+use Rattle.record.specs.Rules.{refusal}
+use Rattle.record.specs.declared.Rule.TheVariants.{NoRoom}
+use Rattle.compare.specs.Compare.{difference_of, differs}
 use Rattle.compare.proofs.CompareLaws.{outcome_same, outcome_word, word_answer, word_withheld, same_answer}
-use Rattle.compare.proofs.settle.Goals.{After-size-a, In-Differs}
+use Rattle.compare.proofs.settle.Goals.{After-size-a, In-Some}
 use Rattle.compare.proofs.settle.Goals as goal
 
 -- The row that was found.
-found : (c : In-Differs) → Found (letters_of c.args.first.now) (automaton_of c.args.first.now) (automaton_of c.args.second.now) c.compare-v.new.w c.in-Differs.row c.in-Differs.by_first
-found c = rw c.in-Differs.is at c.compare-v.ensures
+found : (c : In-Some) → Found (letters_of c.args.first.now) (automaton_of c.args.first.now) (automaton_of c.args.second.now) c.compare-v.new.w c.in-Some.apart.row c.in-Some.apart.side
+found c = rw c.in-Some.is at c.compare-v.ensures
 
-difference : (c : In-Differs) → difference_of c.args.first.now c.args.second.now ≡ some (word_in c.compare-v.new.w c.in-Differs.row)
+difference : (c : In-Some) → difference_of c.args.first.now c.args.second.now ≡ some (word_in c.compare-v.new.w c.in-Some.apart.row)
 unfolding difference_of
 difference c = (found c).word
 
 -- Its word can be read off the trail.
-traced : (c : After-size-a) → Traced c.size-a.result c.in-Differs.row c.compare-v.new.w
-traced c = rw c.size-a.ensures.0 (rw c.in-Differs.is at c.compare-v.ensures).traced
+traced : (c : After-size-a) → Traced c.size-a.result c.in-Some.apart.row c.compare-v.new.w
+traced c = rw c.size-a.ensures.0 (rw c.in-Some.is at c.compare-v.ensures).traced
 
 pub compare-v-requires : goal.compare-v-requires
-compare-v-requires c = (both_passed _ _ c.requires, refl)
+compare-v-requires c = (both_passed _ _ c.requires, c.empty-w.ensures)
 
 pub returns-in_default : goal.returns-in_default
 unfolding difference_of
@@ -48,9 +50,9 @@ depth-n-requires c = traced (goal.at.depth-n-requires c).After-size-a
 pub returns-then-word-n : goal.returns-then-word-n
 returns-then-word-n c =
     let a = c.args in
-    let w = word_in c.compare-v.new.w c.in-Differs.row in
+    let w = word_in c.compare-v.new.w c.in-Some.apart.row in
     let e = c.depth-n.ensures.0 in
-    let short : length a.word.now < length w = rw e at c.if-word-n.true in record { answer = ap (Refused 12 0) e ∙ sym (word_withheld a.first.now a.second.now (length a.word.now) c.requires w (difference (goal.at.returns-then-word-n c).In-Differs) short); buffer = sym (ap (λ x. buffer_of x a.word.now) (outcome_word a.first.now a.second.now (length a.word.now) c.requires w (difference (goal.at.returns-then-word-n c).In-Differs) ∙ fit_short (length a.word.now) w refl short)) }
+    let short : length a.word.now < length w = rw e at c.if-word-n.true in record { answer = ap Err (c.of.ensures ∙ ap (refusal NoRoom 0) e) ∙ sym (word_withheld a.first.now a.second.now (length a.word.now) c.requires w (difference (goal.at.returns-then-word-n c).In-Some) short); buffer = sym (ap (λ x. buffer_of x a.word.now) (outcome_word a.first.now a.second.now (length a.word.now) c.requires w (difference (goal.at.returns-then-word-n c).In-Some) ∙ fit_short (length a.word.now) w refl short)) }
 
 pub trace-requires : goal.trace-requires
 trace-requires c = (traced (goal.at.trace-requires c).After-size-a, c.depth-n.ensures.0, omega arith)
@@ -58,10 +60,10 @@ trace-requires c = (traced (goal.at.trace-requires c).After-size-a, c.depth-n.en
 pub returns : goal.returns
 returns c =
     let a = c.args in
-    let w = word_in c.compare-v.new.w c.in-Differs.row in
+    let w = word_in c.compare-v.new.w c.in-Some.apart.row in
     let e = c.depth-n.ensures.0 in
     let room : length w ≤ length a.word.now = rw e at c.if-word-n.false in record {
-      answer = ap₂ Differs e (c.named_side-s.ensures ∙ ap side_of (found (goal.at.returns c).In-Differs).side) ∙ sym (word_answer a.first.now a.second.now (length a.word.now) c.requires w (difference (goal.at.returns c).In-Differs) room);
+      answer = ap₂ (λ n s. Ok (Some (differs n s))) e (found (goal.at.returns c).In-Some).side ∙ sym (word_answer a.first.now a.second.now (length a.word.now) c.requires w (difference (goal.at.returns c).In-Some) room);
       buffer = c.trace.ensures ∙ ap (λ k. w ++ drop k a.word.now) e
-          ∙ sym (ap (λ x. buffer_of x a.word.now) (outcome_word a.first.now a.second.now (length a.word.now) c.requires w (difference (goal.at.returns c).In-Differs) ∙ fit_done (length a.word.now) w refl room));
+          ∙ sym (ap (λ x. buffer_of x a.word.now) (outcome_word a.first.now a.second.now (length a.word.now) c.requires w (difference (goal.at.returns c).In-Some) ∙ fit_done (length a.word.now) w refl room));
     }
