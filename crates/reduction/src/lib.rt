@@ -65,24 +65,23 @@ pub fn expand(t: &Table, m: Machine, b: &mut Basis, out: &mut Table, s: Size, k:
     r
 }
 
-// Row k of the basis times letter l, which is y, where as many rows are found as there are states: it is an xor of them, and the first g
-// groups of tab tell of which.
+// Row k of the basis times letter l, which is y, where as many rows are found as there are states: it is an xor of them, and tab tells
+// of which.
 fn look_up(
     t: &Table,
     m: Machine,
     b: &Basis,
     tab: &Lookup,
-    g: usize,
     out: &mut Table,
     y: Row,
     s: Size,
     k: usize,
     l: usize,
 )
-    requires { Valid t.now m × Searching m.letters t.now m.states (mask m.initial) (mask m.finals) b.now out.old s.count k l (mask s.pivots) (mask s.used) × (k < s.count) × (l < m.letters) × (s.count ≡ m.states) × Coefficients g (mask s.pivots) b.now tab.now × (mask y ≡ product m.states (cell width b.now 1 k) (at t.now l)) }
+    requires { Valid t.now m × Searching m.letters t.now m.states (mask m.initial) (mask m.finals) b.now out.old s.count k l (mask s.pivots) (mask s.used) × (k < s.count) × (l < m.letters) × (s.count ≡ m.states) × Coefficients tab.now.groups (mask s.pivots) b.now tab.now.entries × (mask y ≡ product m.states (cell width b.now 1 k) (at t.now l)) }
     ensures { Searching m.letters t.now m.states (mask m.initial) (mask m.finals) b.now out.new s.count k (l + 1) (mask s.pivots) (mask s.used) }
 {
-    let c = lookup::times(tab, g, y);
+    let c = tab.times(y);
     rows::store(out, l, k, c);
 }
 
@@ -92,12 +91,11 @@ fn look_up_row(
     m: Machine,
     b: &Basis,
     tab: &Lookup,
-    g: usize,
     out: &mut Table,
     s: Size,
     k: usize,
 )
-    requires { Valid t.now m × Searching m.letters t.now m.states (mask m.initial) (mask m.finals) b.now out.old s.count k 0 (mask s.pivots) (mask s.used) × (k < s.count) × (s.count ≡ m.states) × Coefficients g (mask s.pivots) b.now tab.now }
+    requires { Valid t.now m × Searching m.letters t.now m.states (mask m.initial) (mask m.finals) b.now out.old s.count k 0 (mask s.pivots) (mask s.used) × (k < s.count) × (s.count ≡ m.states) × Coefficients tab.now.groups (mask s.pivots) b.now tab.now.entries }
     ensures { Searching m.letters t.now m.states (mask m.initial) (mask m.finals) b.now out.new s.count (k + 1) 0 (mask s.pivots) (mask s.used) }
 {
     let a = m.letters;
@@ -105,7 +103,7 @@ fn look_up_row(
     multiply(t, a, b, k, &mut y);
     for l in 0..a {
         let z = kernels::pick(&y, l);
-        look_up(t, m, b, tab, g, out, z, s, k, l);
+        look_up(t, m, b, tab, out, z, s, k, l);
     }
 }
 
@@ -116,10 +114,10 @@ fn look_up_rows(t: &Table, m: Machine, b: &Basis, out: &mut Table, s: Size, firs
 {
     let d = s.count;
     let p = s.pivots;
-    let mut tab = [0u64; 256];
-    let g = lookup::fill(b, WIDEST, 2, p, &mut tab);
+    let mut tab = Lookup::empty();
+    tab.fill(b, WIDEST, 2, p);
     for k in first..d {
-        look_up_row(t, m, b, &tab, g, out, s, k);
+        look_up_row(t, m, b, &tab, out, s, k);
     }
 }
 

@@ -6,7 +6,7 @@ ghost use Rattle.std.specs.Int.Bits.{bit_xor};
 ghost use Rattle.rows.specs.Row.{width, mask};
 ghost use Rattle.rows.specs.Product.{product};
 ghost use Rattle.basis.specs.Basis.{cell, Room};
-ghost use Rattle.lookup.specs.Lookup.{groups, Tabled, Kept};
+ghost use Rattle.lookup.specs.Lookup.{Tabled, Kept};
 ghost use Rattle.trail.specs.declared.Step.{Step};
 ghost use Rattle.trail.specs.Trail.{trail_size};
 ghost use Rattle.record.specs.Record.{states_of};
@@ -151,14 +151,14 @@ fn try_single(
 }
 
 // Whether the table keeps the products of the row x by every letter.
-fn are_kept(first: &[u8], second: &[u8], m: Machine, x: Row, tab: &Lookup, g: usize) -> bool
-    requires { Paired first.now second.now m × (mask x < 2 ^ m.states) × (g ≤ groups) }
-    ensures { result ≡ true → (M : ℕ → ℕ) → Tabled g M tab.now → (l : ℕ) → l < m.letters → Kept g M (product m.states (mask x) (beside_of first.now second.now l)) }
+fn are_kept(first: &[u8], second: &[u8], m: Machine, x: Row, tab: &Lookup) -> bool
+    requires { Paired first.now second.now m × (mask x < 2 ^ m.states) }
+    ensures { result ≡ true → (M : ℕ → ℕ) → Tabled tab.now.groups M tab.now.entries → (l : ℕ) → l < m.letters → Kept tab.now.groups M (product m.states (mask x) (beside_of first.now second.now l)) }
 {
     let a = m.letters;
     let mut y = [0u64; 8];
     pair_products::times_both(first, second, x, &mut y);
-    lookup::keeps(tab, g, &y, a)
+    tab.keeps(&y, a)
 }
 
 // From row k on, the first row that has a product which is no xor of rows found; or the end of the rows. The basis is only read, so that
@@ -175,11 +175,11 @@ fn pass_rows(
     requires { Paired first.now second.now m × ((w : List Step) × HuntingIn stride first.now second.now m b.now w s k 0) × (k ≤ s.count) × (width ≤ stride) }
     ensures { ((w : List Step) → HuntingIn stride first.now second.now m b.now w s k 0 → HuntingIn stride first.now second.now m b.now w s result 0) × (k ≤ result) × (result ≤ s.count) }
 {
-    let mut tab = [0u64; 256];
-    let g = lookup::fill(b, stride, 0, s.pivots, &mut tab);
+    let mut tab = Lookup::empty();
+    tab.fill(b, stride, 0, s.pivots);
     for j in k..s.count {
         let x = basis::get(b, stride, 1, j);
-        if !are_kept(first, second, m, x, &tab, g) {
+        if !are_kept(first, second, m, x, &tab) {
             return j;
         }
     }

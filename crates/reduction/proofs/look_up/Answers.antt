@@ -12,4 +12,4 @@ returns c =
     let z = c.times-c in
     let p = mask a.s.pivots in
     searching_full m.letters a.t.now m.states (mask m.initial) (mask m.finals) c.requires.0 a.b.now a.out.now a.s.count a.k a.l p (mask a.s.used) c.requires.1 c.requires.2 c.requires.3 c.requires.4
-    (mask a.y) c.requires.6 a.g a.tab.now c.requires.5 (mask z.result) (z.ensures (chosen p (cell width a.b.now 2)) c.requires.5.tabled) c.store.new.t c.store.ensures
+    (mask a.y) c.requires.6 a.tab.now.groups a.tab.now.entries c.requires.5 (mask z.result) (z.ensures (chosen p (cell width a.b.now 2)) c.requires.5.tabled) c.store.new.t c.store.ensures
