@@ -3,7 +3,8 @@
 
 ghost use Rattle.std.specs.Prelude.{◌≡◌, true, false, List, ℕ, ◌+◌, ◌*◌, ◌/◌, ◌^◌, ◌≤◌, ◌<◌, length};
 ghost use Rattle.std.specs.Int.Bits.{bit_xor};
-ghost use Rattle.rows.specs.Row.{width, mask};
+ghost use Rattle.rows.specs.Row.{width, mask, mask_at};
+ghost use Rattle.rows.specs.Table.{blocks};
 ghost use Rattle.rows.specs.Product.{product};
 ghost use Rattle.basis.specs.Basis.{cell, Room};
 ghost use Rattle.lookup.specs.Lookup.{Tabled, Kept};
@@ -67,8 +68,9 @@ fn try_line(
     })
 }
 
-// The same over two letters, the products made in one pass.
-fn try_two(
+// The same over N letters, the products made in one pass.
+#[tactic(auto, unfolding(rows::specs::Row::mask_at))]
+fn try_few<const N: usize>(
     first: &[u8],
     second: &[u8],
     m: Machine,
@@ -79,32 +81,24 @@ fn try_two(
     k: usize,
     x: Row,
 ) -> Hunt
-    requires { Paired first.now second.now m × HuntingIn stride first.now second.now m b.old w.old s k 0 × (k < s.count) × (mask x ≡ cell stride b.old 1 k) × (m.letters ≡ 2) }
+    requires { Paired first.now second.now m × HuntingIn stride first.now second.now m b.old w.old s k 0 × (k < s.count) × (mask x ≡ cell stride b.old 1 k) × (m.letters ≡ N) × (N ≤ blocks) }
     ensures { HuntedIn stride first.now second.now m b.new w.new s.count (k + 1) 0 result }
 {
-    let p = pair_products::times_two_both(first, second, x);
-    let y = [p.first, p.second];
-    try_each(first, second, m, b, stride, w, s, k, |l| y[l])
-}
-
-// The same over three letters, the products made in one pass.
-fn try_three(
-    first: &[u8],
-    second: &[u8],
-    m: Machine,
-    b: &mut [u64],
-    stride: usize,
-    w: &mut Trail,
-    s: Size,
-    k: usize,
-    x: Row,
-) -> Hunt
-    requires { Paired first.now second.now m × HuntingIn stride first.now second.now m b.old w.old s k 0 × (k < s.count) × (mask x ≡ cell stride b.old 1 k) × (m.letters ≡ 3) }
-    ensures { HuntedIn stride first.now second.now m b.new w.new s.count (k + 1) 0 result }
-{
-    let p = pair_products::times_three_both(first, second, x);
-    let y = [p.first, p.second, p.third];
-    try_each(first, second, m, b, stride, w, s, k, |l| y[l])
+    let y: [Row; N] = pair_products::times_each_both(first, second, 0, x);
+    try_each(
+        first,
+        second,
+        m,
+        b,
+        stride,
+        w,
+        s,
+        k,
+        |l| -> Row
+            requires { (l < N) × (N ≤ blocks) × (length y ≡ N) }
+            ensures { mask result ≡ mask_at y l }
+        { y[l] },
+    )
 }
 
 // The same over three letters or more.
@@ -123,7 +117,7 @@ fn try_letters(
     ensures { HuntedIn stride first.now second.now m b.new w.new s.count (k + 1) 0 result }
 {
     if m.letters == 3 {
-        return try_three(first, second, m, b, stride, w, s, k, x);
+        return try_few::<3>(first, second, m, b, stride, w, s, k, x);
     }
     try_line(first, second, m, b, stride, w, s, k, x)
 }
@@ -237,7 +231,7 @@ fn try_row(
 {
     let x = basis::get(b, stride, 1, k);
     if m.letters == 2 {
-        let r = try_two(first, second, m, b, stride, w, s, k, x)?;
+        let r = try_few::<2>(first, second, m, b, stride, w, s, k, x)?;
         return ControlFlow::Continue(Turn {
             size: r,
             next: k + 1,

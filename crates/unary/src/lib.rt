@@ -61,7 +61,7 @@ fn try_lengths<F: Fn(Row) -> Row>(
 {
     for k in h..last {
         let p = triangular::insert(e, t.pivots, t.row);
-        if rows::is_none(rows::xor(p, t.pivots)) {
+        if p == t.pivots {
             return ControlFlow::Break(None);
         }
         let y = times(t.row);
@@ -155,7 +155,7 @@ pub fn first_power(first: &[u8], second: &[u8], m: Machine, g: Row, w: &mut Trai
     if rows::parity(z, m.finals) {
         return Some(verdict::parted(1, g, z));
     }
-    if rows::is_none(rows::xor(z, i)) {
+    if z == i {
         return None;
     }
     if FEW < m.states {
