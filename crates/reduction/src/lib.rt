@@ -69,16 +69,15 @@ impl<'a> Reduction<'a> {
         }
     }
 
-    // Row k by every letter, where as many rows are found as there are states: each product is an xor of them, and the first g groups of tab
-    // tell of which.
-    fn look_up_row(&mut self, tab: &Lookup, g: usize, k: usize)
-        requires { Before self.old k 0 × (k < self.old.size.count) × (self.old.size.count ≡ self.old.source.machine.states) × Coefficients g (mask self.old.size.pivots) self.old.basis.now tab.now }
+    // Row k by every letter, where as many rows are found as there are states: each product is an xor of them, and tab tells of which.
+    fn look_up_row(&mut self, tab: &Lookup, k: usize)
+        requires { Before self.old k 0 × (k < self.old.size.count) × (self.old.size.count ≡ self.old.source.machine.states) × Coefficients tab.now.groups (mask self.old.size.pivots) self.old.basis.now tab.now.entries }
         ensures { Before self.new (k + 1) 0 × Filled self.old self.new }
     {
         let y = multiply(self.source, self.basis, k);
         for l in 0..self.source.machine.letters {
             let z = kernels::pick(&y, l);
-            let c = lookup::times(tab, g, z);
+            let c = tab.times(z);
             rows::store(self.out, l, k, c);
         }
     }
@@ -88,10 +87,10 @@ impl<'a> Reduction<'a> {
         requires { Before self.old first 0 × (first ≤ self.old.size.count) × (self.old.size.count ≡ self.old.source.machine.states) }
         ensures { Before self.new self.new.size.count 0 × Filled self.old self.new }
     {
-        let mut tab = [0u64; 256];
-        let g = lookup::fill(self.basis, WIDEST, 2, self.size.pivots, &mut tab);
+        let mut tab = Lookup::empty();
+        tab.fill(self.basis, WIDEST, 2, self.size.pivots);
         for k in first..self.size.count {
-            self.look_up_row(&tab, g, k);
+            self.look_up_row(&tab, k);
         }
     }
 

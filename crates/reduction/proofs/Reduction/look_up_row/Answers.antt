@@ -13,7 +13,7 @@ loop-l-preserved c =
     let K = c.requires.3 in
     let low = found_low _ _ _ _ _ _ c.requires.0.search.basis _ c.requires.1 in (
       searching_full _ _ _ _ _ v.self.source.valid _ _ _ _ _ _ _ v.invariant.0 (rw F.size c.requires.1) (rw F.source h) (rw (F.size, F.source) c.requires.2)
-          (mask c.pick-z.result) (rw (F.source, F.basis) (c.pick-z.ensures ∙ c.multiply-y.ensures _ low v.l h)) c.args.g c.args.tab.now (rw (F.size, F.basis) K)
+          (mask c.pick-z.result) (rw (F.source, F.basis) (c.pick-z.ensures ∙ c.multiply-y.ensures _ low v.l h)) c.args.tab.now.groups c.args.tab.now.entries (rw (F.size, F.basis) K)
           (mask c.times-c.result) (rw (F.size, F.basis) (c.times-c.ensures _ K.tabled)) _ c.store.ensures,
       record { source = F.source; basis = F.basis; size = F.size; out = F.out },
     )
