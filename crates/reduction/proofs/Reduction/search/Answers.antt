@@ -8,8 +8,7 @@ use Rattle.reduction.proofs.Reduction.search.Goals as goal
 pub returns-then-most-n : goal.returns-then-most-n
 returns-then-most-n c =
     let v = c.loop-k in
-    let enough = inr (rw v.invariant.2.source c.if-self-n.true) in
-    (record { upto = v.k; within = v.invariant.0; searching = v.invariant.1; enough = enough; whole = λ h. absurd (omega arith) }, v.invariant.2, v.invariant.3)
+    (record { upto = v.k; within = v.invariant.0; searching = v.invariant.1; enough = inr (rw v.invariant.2.source c.if-self-n.true); whole = λ h. absurd (omega arith) }, v.invariant.2, v.invariant.3)
 
 pub loop-k-smaller : goal.loop-k-smaller
 loop-k-smaller c = omega (arith, count_bound _ _ _ _ _ _ c.loop-k.invariant.1.search.basis, c.loop-k.self.source.valid.states)
