@@ -1,6 +1,6 @@
 -- One record after another: a reader that has given out no whole record stays where it is, so it need not be asked again.
 use mathlib.Core.Path.{◌≡◌, refl, sym, ap, ◌∙◌}
-use mathlib.Core.Bool.{true}
+use mathlib.Core.Bool.{true, false}
 use mathlib.Core.List.{List}
 use Prim.Native.Nat.{ℕ, zero, suc, ◌+◌, ◌-◌, ◌≤◌}
 use native.Mathlib.Omega.{arith}
@@ -45,3 +45,9 @@ module _ (s : List ℕ) where
   given_early k index h e is none =
       let i : index - k + k ≡ index = omega arith in
       e ∙ last_wanted k (index - k) (ap (λ p. is_last p (index - k)) (sym e ∙ is) ∙ none) ∙ ap (part_of_index s) i
+
+pub more_wanted : (p : Part) (left : ℕ) → is_last p left ≡ false → 1 ≤ left
+more_wanted (Some (Ok w)) zero more = absurd (cc)
+more_wanted (Some (Ok w)) (suc left) more = omega arith
+more_wanted (Some (Err f)) left more = absurd (cc)
+more_wanted None left more = absurd (cc)
