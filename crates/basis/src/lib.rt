@@ -1,12 +1,12 @@
 // The table that a search works in, lent: three blocks of `stride` rows. Which rows stand in which block, the crates above say.
-#![tactic(auto)]
+#![tactic(auto, unfolding(rows::specs::Row::mask, crate::specs::Basis::cell, crate::specs::Basis::written))]
 
-ghost use Rattle.std.specs.Prelude.{◌≡◌, ℕ, ◌^◌, ◌<◌};
-ghost use Rattle.rows.specs.Row.{mask};
+ghost use Rattle.std.specs.Prelude.{◌≡◌, ℕ, ◌^◌, ◌<◌, ◌≤◌, length, get_or};
+ghost use Rattle.std.specs.List.{All};
+ghost use Rattle.rows.specs.Row.{mask, mask_at};
 ghost use Rattle.rows.specs.Product.{product};
 ghost use Rattle.basis.specs.Basis.{parts, cell, written, Room};
 
-use kernels::Two;
 use rows::Row;
 
 // The stride that serves every row: as many rows a block as a row has bits.
@@ -33,39 +33,16 @@ pub fn put(b: &mut [u64], stride: usize, l: usize, i: usize, x: Row)
     b[l * stride + i] = x.bits;
 }
 
-// The row x times the matrix in block l, however many bits n x has.
-pub fn times(b: &[u64], stride: usize, l: usize, x: Row) -> Row
-    requires { Room stride b.now × (l < parts) × (mask x < 2 ^ stride) }
-    ensures { (n : ℕ) → mask x < 2 ^ n → mask result ≡ product n (mask x) (cell stride b.now l) }
+// The row x times the matrices in N blocks, block l[k] for row k, in one pass over the bits of x, however many bits n it has.
+pub fn times_each<const N: usize>(b: &[u64], stride: usize, l: [usize; N], x: Row) -> [Row; N]
+    requires { Room stride b.now × (N ≤ parts) × All (λ m. m < parts) l × (mask x < 2 ^ stride) }
+    ensures { (k n : ℕ) → k < N → mask x < 2 ^ n → mask_at result k ≡ product n (mask x) (cell stride b.now (get_or l.entry k 0)) }
 {
-    let first = l * stride;
-    let mut z = x.bits;
-    let mut y: u64 = 0;
-    while z != 0 {
-        y ^= b[first + u64::trailing_zeros(z) as usize];
-        z &= z - 1;
-    }
-    Row { bits: y }
-}
-
-// The row x times the matrices in blocks l and g, in one pass over the bits of x.
-pub fn times_two(b: &[u64], stride: usize, l: usize, g: usize, x: Row) -> Two
-    requires { Room stride b.now × (l < parts) × (g < parts) × (mask x < 2 ^ stride) }
-    ensures { (n : ℕ) → mask x < 2 ^ n → (mask result.first ≡ product n (mask x) (cell stride b.now l)) × (mask result.second ≡ product n (mask x) (cell stride b.now g)) }
-{
-    let f = l * stride;
-    let h = g * stride;
-    let mut s = x.bits;
-    let mut y: u64 = 0;
-    let mut w: u64 = 0;
-    while s != 0 {
-        let q = u64::trailing_zeros(s) as usize;
-        y ^= b[f + q];
-        w ^= b[h + q];
-        s &= s - 1;
-    }
-    Two {
-        first: Row { bits: y },
-        second: Row { bits: w },
-    }
+    rows::times_each(
+        x,
+        |k, i| -> Row
+            requires { Room stride b.now × (k < N) × (N ≤ parts) × (length l ≡ N) × All (λ m. m < parts) l × (i < stride) }
+            ensures { mask result ≡ cell stride b.entry.now (get_or l k 0) i }
+        { get(b, stride, l[k], i) },
+    )
 }

@@ -1,95 +1,49 @@
--- The tables of the source hold the entries' records: one computed test for each table.
-use mathlib.Core.Path.{◌≡◌, refl, ap, ◌∙◌}
-use mathlib.Core.Bool.{true}
+-- The table of the source holds the entries' records: one computed test for each of its columns.
+use mathlib.Core.Path.{◌≡◌, sym, ap, ◌∙◌}
 use mathlib.Core.List.{List, [], ◌∷◌}
 use Prim.Native.Nat.{ℕ, ◌+◌, ◌*◌, ◌≤◌, ◌<◌}
-use native.Mathlib.Nat.{mul-le-mul_right}
 use native.Mathlib.Omega.{arith}
-use lib.Dec.{leb}
-use lib.ListN.{get_or}
-use borrow.Author.Tests.{leb-true}
-use Rattle.record.specs.Bytes.{number, bytes_of, all_bytes}
-use Rattle.record.specs.Record.{row_bytes, initial_at, final_at, rows_at, states_of, letters_of, row_at, encode}
+use lib.ListN.{length, get_or, get_or-map}
+use Rattle.std.specs.Prelude.{map}
+use Rattle.automata.specs.Fields.{rows_of}
+use Rattle.automata.proofs.Fields.{rows_at_lem, rows_length}
+use Rattle.record.specs.Bytes.{number}
+use Rattle.record.specs.Record.{row_bytes, initial_at, final_at, states_of, letters_of, row_at}
 use Rattle.record.proofs.RowList.{row_lt}
-use Rattle.catalogue.specs.Entries.{last, letters_at, entry_of, record_of}
-use Rattle.catalogue.proofs.Table.{values_below, each}
+use Rattle.catalogue.specs.Entries.{last, record_of}
+use Rattle.catalogue.specs.Told.{Tells}
+use Rattle.catalogue.specs.declared.Entry.{Entry}
+use Rattle.catalogue.proofs.Table.{values_below, value_at}
 
--- ---- the tables, as the source has them
+-- f of the entries of the table is g of the records.
+abbrev Column : {X : Type 0} → List Entry → (Entry → X) → (List ℕ → X) → Type 0
+Column es f g = map f es ≡ values_below 6 (λ j. g (record_of j))
 
-abbrev pub states : List ℕ
-states = 0 ∷ 1 ∷ 1 ∷ 2 ∷ 2 ∷ 3 ∷ []
+column : {X : Type 0} (es : List Entry) (d : Entry) (f : Entry → X) (g : List ℕ → X) → Column es f g → (j : ℕ) → j ≤ last → f (get_or es j d) ≡ g (record_of j)
+column es d f g e j h = sym (get_or-map f es j d) ∙ ap (λ xs. get_or xs j (f d)) e ∙ value_at 6 (λ j. g (record_of j)) (f d) j (omega arith)
 
-abbrev pub letters : List ℕ
-letters = 2 ∷ 2 ∷ 2 ∷ 2 ∷ 2 ∷ 1 ∷ []
+abbrev table : Entry → Entry → Entry → Entry → Entry → Entry → List Entry
+table a b c d e f = a ∷ b ∷ c ∷ d ∷ e ∷ f ∷ []
 
-abbrev initial : List ℕ
-initial = 0 ∷ 1 ∷ 1 ∷ 1 ∷ 1 ∷ 1 ∷ []
+pub tells : (a b c d e f x : Entry)
+    → Column (table a b c d e f) (λ e. e.states) states_of
+    → Column (table a b c d e f) (λ e. e.letters) letters_of
+    → Column (table a b c d e f) (λ e. e.initial) (λ bs. number row_bytes bs initial_at)
+    → Column (table a b c d e f) (λ e. e.finals) (λ bs. number row_bytes bs final_at)
+    → Column (table a b c d e f) (λ e. e.rows.now) (λ bs. rows_of (letters_of bs) (states_of bs) (row_at bs))
+    → (j : ℕ) → j ≤ last → Tells (get_or (table a b c d e f) j x) (record_of j)
+tells a b c d e f x states letters initial finals rows j h = let es : List Entry = table a b c d e f in record {
+  states = column es x (λ e. e.states) states_of states j h;
+  letters = column es x (λ e. e.letters) letters_of letters j h;
+  initial = column es x (λ e. e.initial) (λ bs. number row_bytes bs initial_at) initial j h;
+  finals = column es x (λ e. e.finals) (λ bs. number row_bytes bs final_at) finals j h;
+  rows = column es x (λ e. e.rows.now) (λ bs. rows_of (letters_of bs) (states_of bs) (row_at bs)) rows j h;
+}
 
-abbrev finals : List ℕ
-finals = 0 ∷ 1 ∷ 1 ∷ 2 ∷ 3 ∷ 7 ∷ []
+-- The row of letter l and state i.
+module _ (e : Entry) (bs : List ℕ) (T : Tells e bs) (l i : ℕ) (hl : l < letters_of bs) (hi : i < e.states) where
+  pub row_within : l * e.states + i < length e.rows.now
+  row_within = rw (T.rows, T.states, rows_length) (row_lt (letters_of bs) (states_of bs) l i hl (rw T.states at hi))
 
-abbrev rows : List ℕ
-rows = 1 ∷ 1 ∷ 0 ∷ 0 ∷ 1 ∷ 1 ∷ 2 ∷ 2 ∷ 2 ∷ 3 ∷ 1 ∷ 1 ∷ 2 ∷ 4 ∷ 5 ∷ []
-
-abbrev pub first : List ℕ
-first = 0 ∷ 0 ∷ 2 ∷ 4 ∷ 8 ∷ 12 ∷ []
-
--- How many rows entry j has, and the x-th of them in the table and in the record.
-abbrev count : ℕ → ℕ
-count j = letters_of (record_of j) * states_of (record_of j)
-
-abbrev table_row : ℕ → ℕ → ℕ
-table_row j x = get_or rows (get_or first j 0 + x) 0
-
-abbrev record_row : ℕ → ℕ → ℕ
-record_row j x = number row_bytes (record_of j) (rows_at + row_bytes * x)
-
--- ---- their tests
-
-module _ (j : ℕ) (h : j ≤ last) where
-  pub states_column : get_or states j 0 ≡ states_of (record_of j)
-  unfolding record_of letters_at entry_of encode
-  states_column = each 6 (λ j. get_or states j 0) (λ j. states_of (record_of j)) refl j (omega arith)
-
-  pub letters_column : get_or letters j 0 ≡ letters_of (record_of j)
-  unfolding record_of letters_at entry_of encode
-  letters_column = each 6 (λ j. get_or letters j 0) (λ j. letters_of (record_of j)) refl j (omega arith)
-
-  pub initial_column : get_or initial j 0 ≡ number row_bytes (record_of j) initial_at
-  unfolding record_of letters_at entry_of encode all_bytes bytes_of number
-  initial_column = each 6 (λ j. get_or initial j 0) (λ j. number row_bytes (record_of j) initial_at) refl j (omega arith)
-
-  pub finals_column : get_or finals j 0 ≡ number row_bytes (record_of j) final_at
-  unfolding record_of letters_at entry_of encode all_bytes bytes_of number
-  finals_column = each 6 (λ j. get_or finals j 0) (λ j. number row_bytes (record_of j) final_at) refl j (omega arith)
-
-  -- Its rows end within their table.
-  within : get_or first j 0 + count j ≤ 15
-  unfolding record_of letters_at entry_of encode
-  within = leb-true (get_or first j 0 + count j) 15 (each 6 (λ j. leb (get_or first j 0 + count j) 15) (λ j. true) refl j (omega arith))
-
-  row_column : (x : ℕ) → x < count j → table_row j x ≡ record_row j x
-  unfolding record_of letters_at entry_of encode all_bytes bytes_of number
-  row_column =
-      each (count j) (table_row j) (record_row j)
-      (each 6 (λ j. values_below (count j) (table_row j)) (λ j. values_below (count j) (record_row j)) refl j (omega arith))
-
--- ---- the row of letter l and state i
-
-module _ (j l n : ℕ) (h : j ≤ last) (e : n ≡ states_of (record_of j)) (hl : l < letters_of (record_of j)) where
-  pub block_within : get_or first j 0 + l * n ≤ 15
-  block_within =
-      let m : l * states_of (record_of j) ≤ count j = mul-le-mul_right (states_of (record_of j)) (omega arith) in
-      rw e (omega (arith, within j h))
-
-  module _ (i : ℕ) (hi : i < n) where
-    place : l * n + i < count j
-    place = rw e (row_lt (letters_of (record_of j)) (states_of (record_of j)) l i hl (rw e at hi))
-
-    pub place_within : get_or first j 0 + l * n + i < 15
-    place_within = omega (arith, within j h, place)
-
-    pub rows_column : get_or rows (get_or first j 0 + l * n + i) 0 ≡ row_at (record_of j) l i
-    rows_column =
-        let k : get_or first j 0 + l * n + i ≡ get_or first j 0 + (l * n + i) = omega arith in
-        ap (λ k. get_or rows k 0) k ∙ row_column j h (l * n + i) place ∙ ap (λ n. record_row j (l * n + i)) e
+  pub row_told : get_or e.rows.now (l * e.states + i) 0 ≡ row_at bs l i
+  row_told = rw (T.rows, T.states) (rows_at_lem (letters_of bs) (states_of bs) (row_at bs) l i hl (rw T.states at hi))

@@ -14,7 +14,7 @@ use Rattle.automata.proofs.Fields.{join_at}
 abbrev pub values_below : {X : Type 0} → ℕ → (ℕ → X) → List X
 values_below n f = join_below n (λ j. f j ∷ [])
 
-value_at : {X : Type 0} (n : ℕ) (f : ℕ → X) (x : X) (j : ℕ) → j < n → get_or (values_below n f) j x ≡ f j
+pub value_at : {X : Type 0} (n : ℕ) (f : ℕ → X) (x : X) (j : ℕ) → j < n → get_or (values_below n f) j x ≡ f j
 value_at n f x j h =
     ap (λ k. get_or (values_below n f) k x) (sym (add-zero j) ∙ ap (λ k. k + 0) (sym (mul-one j)))
     ∙ join_at n 1 (λ j. f j ∷ []) (λ j p. refl) x j 0 h (omega arith)

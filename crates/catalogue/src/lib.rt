@@ -7,6 +7,7 @@ ghost use Rattle.record.specs.Record.{states_of, letters_of};
 ghost use Rattle.record.specs.Outcome.{answer_in, buffer_in};
 ghost use Rattle.record.specs.Held.{HeldUpTo, Holds};
 ghost use Rattle.catalogue.specs.Entries.{last, record_of, catalogue_of, GivesEntry};
+ghost use Rattle.catalogue.specs.Told.{Tells};
 
 use record::Written;
 use rows::{Machine, Table};
@@ -14,31 +15,81 @@ use rows::{Machine, Table};
 // The last number.
 const LAST: usize = 5;
 
-// Sizes, initial rows and final columns, by number.
-const STATES: [usize; 6] = [0, 1, 1, 2, 2, 3];
+// A minimal automaton; its matrix rows in record order, as many as letters times states.
+#[derive(Clone, Copy)]
+struct Entry {
+    states: usize,
+    letters: usize,
+    initial: u64,
+    finals: u64,
+    rows: &'static [u64],
+}
 
-const LETTERS: [usize; 6] = [2, 2, 2, 2, 2, 1];
+// No word, all words, the empty word only, words ending in 1, language X, lengths that leave 0, 1, 2 or 4 on division by 7.
+const ENTRIES: [Entry; 6] = [
+    Entry {
+        states: 0,
+        letters: 2,
+        initial: 0,
+        finals: 0,
+        rows: &[],
+    },
+    Entry {
+        states: 1,
+        letters: 2,
+        initial: 1,
+        finals: 1,
+        rows: &[1, 1],
+    },
+    Entry {
+        states: 1,
+        letters: 2,
+        initial: 1,
+        finals: 1,
+        rows: &[0, 0],
+    },
+    Entry {
+        states: 2,
+        letters: 2,
+        initial: 1,
+        finals: 2,
+        rows: &[1, 1, 2, 2],
+    },
+    Entry {
+        states: 2,
+        letters: 2,
+        initial: 1,
+        finals: 3,
+        rows: &[2, 3, 1, 1],
+    },
+    Entry {
+        states: 3,
+        letters: 1,
+        initial: 1,
+        finals: 7,
+        rows: &[2, 4, 5],
+    },
+];
 
-const INITIAL: [u64; 6] = [0, 1, 1, 1, 1, 1];
-
-const FINALS: [u64; 6] = [0, 1, 1, 2, 3, 7];
-
-// The matrix rows, one entry after another, each in record order, and where those of each entry start.
-const ROWS: [u64; 15] = [1, 1, 0, 0, 1, 1, 2, 2, 2, 3, 1, 1, 2, 4, 5];
-
-const FIRST: [usize; 6] = [0, 0, 2, 4, 8, 12];
+impl Entry {
+    // Entry j.
+    fn of(j: usize) -> Entry
+        requires { j ≤ last }
+        ensures { Tells result (record_of j) }
+    {
+        ENTRIES[j]
+    }
+}
 
 // The rows of letter l, into block l.
 fn load_block(j: usize, l: usize, t: &mut Table)
     requires { (j ≤ last) × (l < letters_of (record_of j)) × HeldUpTo (record_of j) t.old l 0 }
     ensures { HeldUpTo (record_of j) t.new l (states_of (record_of j)) }
 {
-    let n = STATES[j];
-    let first = FIRST[j] + l * n;
-    let mut i = 0;
-    while i < n {
-        rows::store(t, l, i, rows::from_u64(ROWS[first + i]));
-        i += 1;
+    let e = Entry::of(j);
+    let n = e.states;
+    for i in 0..n {
+        rows::store(t, l, i, rows::from_u64(e.rows[l * n + i]));
     }
 }
 
@@ -47,17 +98,15 @@ fn load(j: usize, t: &mut Table) -> Machine
     requires { (j ≤ last) × (length t.old ≡ table_size) }
     ensures { Holds (record_of j) t.new result }
 {
-    let a = LETTERS[j];
-    let mut l = 0;
-    while l < a {
+    let e = Entry::of(j);
+    for l in 0..e.letters {
         load_block(j, l, t);
-        l += 1;
     }
     Machine {
-        states: STATES[j],
-        letters: a,
-        initial: rows::from_u64(INITIAL[j]),
-        finals: rows::from_u64(FINALS[j]),
+        states: e.states,
+        letters: e.letters,
+        initial: rows::from_u64(e.initial),
+        finals: rows::from_u64(e.finals),
     }
 }
 

@@ -1,6 +1,6 @@
 -- What the search over two records side by side says of their languages.
 use mathlib.Core.Path.{◌≡◌, sym, ap, subst, ◌∙◌}
-use mathlib.Core.Bool.{Bool, ◌&&◌, and_comm}
+use mathlib.Core.Bool.{◌&&◌, and_comm}
 use mathlib.Core.List.{List}
 use mathlib.Core.Option.{none}
 use Prim.Native.Nat.{ℕ}
@@ -18,6 +18,8 @@ use Rattle.record.specs.Bytes.{number}
 use Rattle.record.specs.Record.{row_bytes, final_at, states_of, letters_of, automaton_of}
 use Rattle.hunt.specs.Both.{beside_of, Paired}
 use Rattle.hunt.specs.Hunt.{shared, Hunting, Stopped}
+use Rattle.verdict.specs.declared.Side.{Side}
+use Rattle.verdict.specs.Side.{side_of}
 use Rattle.verdict.specs.Judged.{Found}
 use Rattle.comparison.proofs.Complete.{first_row_lem, row_word, row_side, no_row}
 use Rattle.hunt.proofs.BothLaws.{paired_sizes, paired_thin, paired_bits}
@@ -42,12 +44,12 @@ module _ (bs cs : List ℕ) (m : Machine) (P : Paired bs cs m) where
       (no_row a both A B (paired_thin bs cs m P) (paired_bits bs cs m P) d d 0 (bit_of p) (bits σ b 1) (bits σ b 0) H.coef (from_in w) (by_in w) H.made H.search H.none)
 
   -- The search stopped at row r, which is x.
-  pub judged_differs : (w : List ℕ) (r x : ℕ) (first : Bool) → first ≡ shared (states_of bs) (number row_bytes bs final_at) x
-      → Stopped a (beside_of bs cs) m.states (mask m.initial) (mask m.finals) w r x → Found (letters_of bs) A B w r first
-  judged_differs w r x first e H = subst (λ z. Found z A B w r first) P.letters (record {
+  pub judged_differs : (w : List ℕ) (r x : ℕ) (s : Side) → s ≡ side_of (shared (states_of bs) (number row_bytes bs final_at) x)
+      → Stopped a (beside_of bs cs) m.states (mask m.initial) (mask m.finals) w r x → Found (letters_of bs) A B w r s
+  judged_differs w r x s e H = subst (λ z. Found z A B w r s) P.letters (record {
     word = first_row_lem a both A B (paired_thin bs cs m P) (paired_bits bs cs m P) H.count H.upto H.next H.pivots H.rows H.base H.coef (from_in w) (by_in w) H.made H.inside.2 H.inside.1 H.search r H.inside.0 (xor_cong m.states (λ j g. ap (λ b. b && bit_of (mask m.finals) j) (H.row j)) ∙ H.found) H.first;
-    side = e ∙ xor_cong (states_of bs) (λ j g. and_comm (bit_of (number row_bytes bs final_at) j) (bit_of x j) ∙ ap (λ b. b && bit_of (number row_bytes bs final_at) j) (sym (H.row j)))
-        ∙ sym (row_side a both A B (paired_thin bs cs m P) (paired_bits bs cs m P) H.count H.upto H.next H.pivots H.rows H.base H.coef (from_in w) (by_in w) H.made H.inside.2 H.inside.1 H.search r H.inside.0);
+    side = e ∙ ap side_of (xor_cong (states_of bs) (λ j g. and_comm (bit_of (number row_bytes bs final_at) j) (bit_of x j) ∙ ap (λ b. b && bit_of (number row_bytes bs final_at) j) (sym (H.row j)))
+        ∙ sym (row_side a both A B (paired_thin bs cs m P) (paired_bits bs cs m P) H.count H.upto H.next H.pivots H.rows H.base H.coef (from_in w) (by_in w) H.made H.inside.2 H.inside.1 H.search r H.inside.0));
     traced = record {
       small = omega (arith, stopped_bound a (beside_of bs cs) m.states (mask m.initial) (mask m.finals) w r x H, (paired_sizes bs cs m P).1);
       letters = (paired_sizes bs cs m P).2;

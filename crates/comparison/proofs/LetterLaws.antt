@@ -1,6 +1,6 @@
 -- Two records of at most two states together: a word of at most one letter tells their languages apart, if any does.
 use mathlib.Core.Path.{◌≡◌, sym, ap, subst, ◌∙◌}
-use mathlib.Core.Bool.{Bool, true, false}
+use mathlib.Core.Bool.{true, false}
 use mathlib.Core.List.{List, [], ◌∷◌, ◌++◌}
 use mathlib.Core.Logic.{inl, inr}
 use mathlib.Core.Option.{none, some}
@@ -25,6 +25,8 @@ use Rattle.record.specs.Record.{row_bytes, final_at, states_of, letters_of, auto
 use Rattle.hunt.specs.Both.{beside_of, Paired}
 use Rattle.hunt.specs.Hunt.{shared}
 use Rattle.hunt.proofs.BothLaws.{paired_sizes}
+use Rattle.verdict.specs.declared.Side.{Side}
+use Rattle.verdict.specs.Side.{side_of}
 use Rattle.verdict.specs.Judged.{Found}
 use Rattle.verdict.specs.Rows.{RowOf}
 use Rattle.verdict.proofs.RowLaws.{row_start, row_next, row_differs, row_first}
@@ -69,11 +71,11 @@ module _ (bs cs : List ℕ) (m : Machine) (P : Paired bs cs m) (empty : shared m
     pub letter_tried : shared m.states y (mask m.finals) ≡ false → accepts A (l ∷ []) ⊕ accepts B (l ∷ []) ≡ false
     letter_tried t = row_differs bs cs m P (l ∷ []) y letter_row ∙ t
 
-    pub letter_found : (w w' : List ℕ) → length w ≡ trail_size → w' ≡ linked w 1 0 l → (first : Bool) → first ≡ shared (states_of bs) (number row_bytes bs final_at) y → shared m.states y (mask m.finals) ≡ true
-        → ((x : ℕ) → x < l → accepts A (x ∷ []) ⊕ accepts B (x ∷ []) ≡ false) → Found (letters_of bs) A B w' 1 first
-    letter_found w w' t q first s d before = subst (λ a. Found a A B w' 1 first) P.letters (record {
+    pub letter_found : (w w' : List ℕ) → length w ≡ trail_size → w' ≡ linked w 1 0 l → (s : Side) → s ≡ side_of (shared (states_of bs) (number row_bytes bs final_at) y) → shared m.states y (mask m.finals) ≡ true
+        → ((x : ℕ) → x < l → accepts A (x ∷ []) ⊕ accepts B (x ∷ []) ≡ false) → Found (letters_of bs) A B w' 1 s
+    letter_found w w' t q s e' d before = subst (λ a. Found a A B w' 1 s) P.letters (record {
       word = some_difference m.letters A B (l ∷ []) (record { over = (h, tt); differs = row_differs bs cs m P (l ∷ []) y letter_row ∙ d; first = λ u o g. xor_zero (earlier u g) }) ∙ ap some (sym (word_one m.letters l w w' t q));
-      side = s ∙ row_first bs cs m P (l ∷ []) y letter_row ∙ ap (accepts A) (sym (word_one m.letters l w w' t q));
+      side = e' ∙ ap side_of (row_first bs cs m P (l ∷ []) y letter_row ∙ ap (accepts A) (sym (word_one m.letters l w w' t q)));
       traced = traced_one m.letters l w w' t q (paired_sizes bs cs m P).2 h;
     })
       where

@@ -4,7 +4,7 @@
 ghost use Rattle.std.specs.Prelude.{◌≡◌, ℕ, ◌+◌, ◌^◌, ◌≤◌, ◌<◌, length};
 ghost use Rattle.automata.specs.Cuts.{concatenation};
 ghost use Rattle.rows.specs.Row.{width, mask};
-ghost use Rattle.rows.specs.Table.{blocks, size, at};
+ghost use Rattle.rows.specs.Table.{blocks, at};
 ghost use Rattle.rows.specs.Machine.{Valid};
 ghost use Rattle.direct_sum.specs.Filled.{Filled, Changed};
 ghost use Rattle.results.specs.Built.{held_words, Built};
@@ -23,27 +23,23 @@ fn opened(x: Row, f: Row, start: Row) -> Row
 
 // The n rows of letter l opened.
 fn open_block(t: &mut Table, l: usize, n: usize, f: Row, start: Row)
-    requires { (l < blocks) × (n ≤ width) × ((k : ℕ) → k < n → at t.old l k < 2 ^ n) × (length t.old ≡ size) }
+    requires { (l < blocks) × (n ≤ width) × ((k : ℕ) → k < n → at t.old l k < 2 ^ n) }
     ensures { Changed l n (opened_rows n (mask f) (mask start) (at t.old) l) t.old t.new }
 {
-    let mut k: usize = 0;
-    while k < n {
+    for k in 0..n {
         let x = rows::load(t, l, k);
         let y = opened(x, f, start);
         rows::store(t, l, k, y);
-        k += 1;
     }
 }
 
 // The n rows of each of a letters opened.
 fn open_rows(t: &mut Table, a: usize, n: usize, f: Row, start: Row)
-    requires { (a ≤ blocks) × (n ≤ width) × ((l k : ℕ) → l < a → k < n → at t.old l k < 2 ^ n) × (length t.old ≡ size) }
+    requires { (a ≤ blocks) × (n ≤ width) × ((l k : ℕ) → l < a → k < n → at t.old l k < 2 ^ n) }
     ensures { Filled a n (opened_rows n (mask f) (mask start) (at t.old)) t.new }
 {
-    let mut l: usize = 0;
-    while l < a {
+    for l in 0..a {
         open_block(t, l, n, f, start);
-        l += 1;
     }
 }
 
@@ -66,7 +62,7 @@ pub fn concatenate(t: &mut Table, g: Machine, u: &Table, h: Machine) -> Machine
     Machine {
         states: n + k,
         letters: a,
-        initial: initial,
-        finals: finals,
+        initial,
+        finals,
     }
 }

@@ -19,19 +19,30 @@ pub struct Size {
     pub used: Row,
 }
 
+impl Size {
+    // No row is found yet.
+    pub fn empty() -> Size
+        ensures { (result.count ≡ 0) × (mask result.pivots ≡ 0) × (mask result.used ≡ 0) }
+    {
+        Size {
+            count: 0,
+            pivots: rows::none(),
+            used: rows::none(),
+        }
+    }
+}
+
 // Adds x to the rows of block l below n whose neighbours in block 0 have bit q.
 fn fold(b: &mut [u64], stride: usize, l: usize, n: usize, q: usize, x: Row)
     requires { (l < parts) × (n ≤ stride) × (q < width) × Room stride b.old }
     ensures { Folded stride (λ j. j < n) l q (mask x) b.old b.new }
 {
-    let mut j: usize = 0;
-    while j < n {
+    for j in 0..n {
         let e = basis::get(b, stride, 0, j);
         let o = rows::has(e, q);
         let u = rows::when(o, x);
         let d = basis::get(b, stride, l, j);
         basis::put(b, stride, l, j, rows::xor(d, u));
-        j += 1;
     }
 }
 
@@ -42,10 +53,7 @@ fn spread(b: &mut [u64], stride: usize, l: usize, n: usize, p: Row, v: Row, q: u
     ensures { Folded stride (λ j. (j < n) × (bit_of (mask p) j ≡ true)) l q (mask x) b.old b.new }
 {
     if rows::has(v, q) {
-        let mut k = rows::span(p);
-        if stride < k {
-            k = stride;
-        }
+        let k = rows::span(p).min(stride);
         fold(b, stride, l, k, q, x);
     }
 }
@@ -75,7 +83,7 @@ pub fn left_of(b: &[u64], stride: usize, s: Size, y: Row) -> Row
 {
     let p = s.pivots;
     let z = rows::and(y, p);
-    let e = basis::times(b, stride, 0, z);
+    let [e]: [Row; 1] = basis::times_each(b, stride, [0], z);
     rows::xor(y, e)
 }
 
@@ -107,7 +115,7 @@ pub struct Spot {
     pub size: Size,
 }
 
-// The same with coefficients: which of the rows found make y.
+// The same with coefficients: which of the rows found make y. One function for both would ask at each step whether coefficients are kept.
 pub fn place(b: &mut [u64], stride: usize, n: usize, s: Size, y: Row) -> Spot
     requires { (n ≤ width) × (n ≤ stride) × Room stride b.old × (mask y < 2 ^ n) × BasisIn stride n s.count (mask s.pivots) (bits stride b.old 2) b.old × Covered stride s.count (mask s.used) b.old }
     ensures { Placed stride n s.count (mask s.pivots) (mask s.used) (mask y) (bits stride b.old 2) (bits stride b.new 2) (bit_of (mask result.row)) b.old b.new result.size.count (mask result.size.pivots) (mask result.size.used) }
@@ -116,9 +124,7 @@ pub fn place(b: &mut [u64], stride: usize, n: usize, s: Size, y: Row) -> Spot
     let p = s.pivots;
     let v = s.used;
     let z = rows::and(y, p);
-    let w = basis::times_two(b, stride, 0, 2, z);
-    let e = w.first;
-    let c = w.second;
+    let [e, c]: [Row; 2] = basis::times_each(b, stride, [0, 2], z);
     let left = rows::xor(y, e);
     if rows::is_none(left) {
         return Spot { row: c, size: s };

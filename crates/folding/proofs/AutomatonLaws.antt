@@ -1,14 +1,13 @@
 -- The automaton that a folded table holds.
 use mathlib.Core.Path.{◌≡◌, refl, sym, ap, ap₂, subst, ◌∙◌}
-use mathlib.Core.Bool.{Bool, true, false, ◌&&◌, and-true, and-false, and_comm, true≢false}
+use mathlib.Core.Bool.{true, false, ◌&&◌, and-true, and-false, and_comm, true≢false}
 use mathlib.Core.List.{List}
 use mathlib.Core.Logic.{◌⊎◌, inl, inr}
-use Prim.Native.Nat.{ℕ, ◌*◌, ◌^◌, ◌<◌, ◌≤◌}
+use Prim.Native.Nat.{ℕ, ◌*◌, ◌^◌, ◌<◌}
 use native.Mathlib.Nat.{lt_of_le_of_lt}
 use native.Mathlib.Omega.{arith}
 use lib.Bits.{bit_and, and_le_r}
 use lib.Dec.{eqb}
-use Rattle.automata.specs.Xor.{xor_below}
 use Rattle.automata.specs.Mask.{bit_of}
 use Rattle.automata.proofs.Xor.{bool_cases, xor_cong, xor_pick, eqb_sym, eqb_differ}
 use Rattle.rows.specs.Row.{width}

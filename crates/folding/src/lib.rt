@@ -6,7 +6,6 @@ ghost use Rattle.std.specs.Prelude.{◌≡◌, ◌+◌, ◌≤◌, ◌<◌, leng
 ghost use Rattle.rows.specs.Row.{width, mask};
 ghost use Rattle.rows.specs.Table.{blocks, size};
 ghost use Rattle.rows.specs.Machine.{automaton_in, Valid};
-ghost use Rattle.basis.specs.Basis.{basis_size};
 ghost use Rattle.lookup.specs.Lookup.{groups};
 ghost use Rattle.folding.specs.Folding.{UnitAt, LowAt, FoldedTo, FoldedBlocks, Folds};
 
@@ -16,7 +15,7 @@ use rows::{Machine, Row, Table};
 
 // The rows of the pivots below n in block l, one after another, folded.
 fn fold_rows(p: Row, tab: &Lookup, g: usize, t: &mut Table, l: usize, n: usize)
-    requires { (l < blocks) × (n ≤ width) × (g ≤ groups) × (length t.old ≡ size) }
+    requires { (l < blocks) × (n ≤ width) × (g ≤ groups) }
     ensures { FoldedTo l n (mask p) g tab.now t.old t.new }
 {
     let mut z = rows::and(p, rows::below(n));
@@ -33,26 +32,24 @@ fn fold_rows(p: Row, tab: &Lookup, g: usize, t: &mut Table, l: usize, n: usize)
 
 // The rows of the first a blocks folded.
 fn fold_table(p: Row, tab: &Lookup, g: usize, t: &mut Table, a: usize, n: usize)
-    requires { (a ≤ blocks) × (n ≤ width) × (g ≤ groups) × (length t.old ≡ size) }
+    requires { (a ≤ blocks) × (n ≤ width) × (g ≤ groups) }
     ensures { FoldedBlocks a n (mask p) g tab.now t.old t.new }
 {
-    let mut l: usize = 0;
-    while l < a {
+    for l in 0..a {
         fold_rows(p, tab, g, t, l, n);
-        l += 1;
     }
 }
 
 // The automaton of t and m folded, its rows in t: a state for each pivot. Where every state is a pivot nothing changes. The table c is for
 // work.
 pub fn fold(b: &Basis, p: Row, t: &mut Table, m: Machine, c: &mut Table) -> Machine
-    requires { Valid t.old m × (length b.now ≡ basis_size) × UnitAt m.states (mask p) b.now × LowAt m.states (mask p) b.now × (length c.old ≡ size) }
+    requires { Valid t.old m × UnitAt m.states (mask p) b.now × LowAt m.states (mask p) b.now }
     ensures { (result.letters ≡ m.letters) × Folds m.letters (automaton_in t.old m) (mask p) b.now t.new result.states (mask result.initial) (mask result.finals) × (length c.new ≡ size) }
 {
     let n = m.states;
     let a = m.letters;
     let all = rows::below(n);
-    if rows::is_none(rows::xor(p, all)) {
+    if p == all {
         return m;
     }
     let d = columns::columns(b, p, n, c);

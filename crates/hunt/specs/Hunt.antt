@@ -7,6 +7,8 @@
 --   Started     the initial row i is placed in the empty basis
 -- HuntingIn, HuntedIn and EndedIn say Hunting, Hunted and Ended of two records side by side: m has their sizes, initial row and final column.
 use Rattle.std.specs.Prelude.{◌≡◌, Bool, true, false, ◌&&◌, List, ℕ, ◌<◌, ◌≤◌, length}
+use Rattle.std.specs.declared.ops.ControlFlow.{ControlFlow}
+use Rattle.std.specs.declared.ops.ControlFlow.TheVariants.{Continue, Break}
 use Rattle.automata.specs.Xor.{xor_below}
 use Rattle.automata.specs.Mask.{bit_of}
 use Rattle.rows.specs.declared.Machine.{Machine}
@@ -19,8 +21,11 @@ use Rattle.elimination.specs.Place.{Covered, Placed}
 use Rattle.reduction.specs.Search.{Search}
 use Rattle.reduction.specs.Tables.{SearchIn, accepted}
 use Rattle.hunt.specs.Both.{beside_of}
-use Rattle.hunt.specs.declared.Hunt.{Hunt}
-use Rattle.hunt.specs.declared.Hunt.TheVariants.{Going, Found}
+use Rattle.hunt.specs.declared.Found.{Found}
+
+-- What the search comes to: it goes on from the rows found, or breaks off at the first accepted one.
+abbrev pub Hunt : Type 0
+Hunt = ControlFlow Found Size
 
 abbrev pub shared : ℕ → ℕ → ℕ → Bool
 shared n x y = xor_below n (λ j. bit_of x j && bit_of y j)
@@ -53,13 +58,13 @@ pub record Stopped (a : ℕ) (M : ℕ → ℕ → ℕ) (n i f : ℕ) (w : List �
   pub first : (q : ℕ) → q < r → xor_below n (λ j. rows q j && bit_of f j) ≡ false
 
 abbrev pub Hunted : ℕ → ℕ → (ℕ → ℕ → ℕ) → ℕ → ℕ → ℕ → List ℕ → List ℕ → ℕ → ℕ → ℕ → Hunt → Type 0
-Hunted σ a M n i f b w d k l (Going s) = Hunting σ a M n i f b w s.count k l (mask s.pivots) (mask s.used) × (d ≤ s.count)
-Hunted σ a M n i f b w d k l (Found r x) = Stopped a M n i f w r (mask x)
+Hunted σ a M n i f b w d k l (Continue s) = Hunting σ a M n i f b w s.count k l (mask s.pivots) (mask s.used) × (d ≤ s.count)
+Hunted σ a M n i f b w d k l (Break x) = Stopped a M n i f w x.number (mask x.row)
 
 -- Every pair is done, or the search stopped.
 abbrev pub Ended : ℕ → ℕ → (ℕ → ℕ → ℕ) → ℕ → ℕ → ℕ → List ℕ → List ℕ → Hunt → Type 0
-Ended σ a M n i f b w (Going s) = Hunting σ a M n i f b w s.count s.count 0 (mask s.pivots) (mask s.used)
-Ended σ a M n i f b w (Found r x) = Stopped a M n i f w r (mask x)
+Ended σ a M n i f b w (Continue s) = Hunting σ a M n i f b w s.count s.count 0 (mask s.pivots) (mask s.used)
+Ended σ a M n i f b w (Break x) = Stopped a M n i f w x.number (mask x.row)
 
 pub record Started (σ n i : ℕ) (b b' : List ℕ) (d p v : ℕ) : Type 0 where
   pub coef : ℕ → ℕ → Bool

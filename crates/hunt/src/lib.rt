@@ -10,15 +10,19 @@ ghost use Rattle.hunt.specs.Hunt.{Started, HuntingIn, HuntedIn};
 
 use elimination::Size;
 use rows::{Machine, Row};
+use std::ops::ControlFlow;
 use trail::Trail;
 
-// What the search for an accepted row has come to: the rows found so far, none of them accepted, or the first accepted row, by its number,
-// and the row itself.
+// The first accepted row, and its number among the rows found.
 #[derive(Clone, Copy)]
-pub enum Hunt {
-    Going(Size),
-    Found { number: usize, row: Row },
+pub struct Found {
+    pub number: usize,
+    pub row: Row,
 }
+
+// What the search for an accepted row has come to: it goes on from the rows found so far, none of them accepted, or breaks off at the first
+// accepted row.
+pub type Hunt = ControlFlow<Found, Size>;
 
 // Row k by letter l, whose product is y; a new row that the final column accepts ends the search.
 pub fn try_pair(
@@ -38,20 +42,20 @@ pub fn try_pair(
 {
     // Most products of a sparse machine have no bits, and are an xor of no rows.
     if rows::is_none(y) {
-        return Hunt::Going(s);
+        return ControlFlow::Continue(s);
     }
     let d = s.count;
     let f = m.finals;
     let left = elimination::left_of(b, stride, s, y);
     if rows::is_none(left) {
-        return Hunt::Going(s);
+        return ControlFlow::Continue(s);
     }
     trail::link(w, d, k, l);
     // The search ends here: an accepted row need not be added to the basis.
     if rows::parity(y, f) {
-        return Hunt::Found { number: d, row: y };
+        return ControlFlow::Break(Found { number: d, row: y });
     }
-    Hunt::Going(elimination::extend(b, stride, m.states, s, left, y))
+    ControlFlow::Continue(elimination::extend(b, stride, m.states, s, left, y))
 }
 
 // The initial row is the first row found, unless it has no bits.

@@ -4,7 +4,7 @@
 ghost use Rattle.std.specs.Prelude.{◌≡◌, ℕ, ◌+◌, ◌*◌, ◌^◌, ◌≤◌, ◌<◌, length};
 ghost use Rattle.automata.specs.Language.{intersection};
 ghost use Rattle.rows.specs.Row.{width, mask};
-ghost use Rattle.rows.specs.Table.{blocks, size, at};
+ghost use Rattle.rows.specs.Table.{blocks, at};
 ghost use Rattle.rows.specs.Machine.{Valid};
 ghost use Rattle.direct_sum.specs.Filled.{Filled};
 ghost use Rattle.record.specs.Outcome.{answer_in, buffer_in};
@@ -25,13 +25,11 @@ fn kron(x: Row, y: Row, n: usize, m: usize) -> Row
     ensures { mask result ≡ kron n m (mask x) (mask y) }
 {
     let mut r = rows::none();
-    let mut p: usize = 0;
-    while p < n {
+    for p in 0..n {
         let z = rows::moved(y, p * m);
         let b = rows::has(x, p);
         let w = rows::when(b, z);
         r = rows::xor(r, w);
-        p += 1;
     }
     r
 }
@@ -42,31 +40,27 @@ fn cross_block(t: &Table, u: &Table, out: &mut Table, n: usize, m: usize, l: usi
     ensures { Filled (l + 1) (n * m) (crossed t.now u.now n m) out.new }
 {
     let d = n * m;
-    let mut k: usize = 0;
-    while k < d {
+    for k in 0..d {
         let x = rows::load(t, l, k / m);
         let y = rows::load(u, l, k % m);
         let r = kron(x, y, n, m);
         rows::store(out, l, k, r);
-        k += 1;
     }
 }
 
 // The rows of the product automaton: the Kronecker products of the matrices of each letter.
 fn cross(t: &Table, u: &Table, out: &mut Table, a: usize, n: usize, m: usize)
-    requires { (a ≤ blocks) × (n ≤ width) × (n * m ≤ width) × ((l j : ℕ) → l < a → j < m → at u.now l j < 2 ^ m) × (length out.old ≡ size) }
+    requires { (a ≤ blocks) × (n ≤ width) × (n * m ≤ width) × ((l j : ℕ) → l < a → j < m → at u.now l j < 2 ^ m) }
     ensures { Filled a (n * m) (crossed t.now u.now n m) out.new }
 {
-    let mut l: usize = 0;
-    while l < a {
+    for l in 0..a {
         cross_block(t, u, out, n, m, l);
-        l += 1;
     }
 }
 
 // The product automaton of two automata over the same letters, its rows in s.
 fn product(t: &Table, g: Machine, u: &Table, h: Machine, s: &mut Table) -> Machine
-    requires { Valid t.now g × Valid u.now h × (h.letters ≡ g.letters) × (g.states * h.states ≤ width) × (length s.old ≡ size) }
+    requires { Valid t.now g × Valid u.now h × (h.letters ≡ g.letters) × (g.states * h.states ≤ width) }
     ensures { Built g.letters (intersection (held_words t.now g) (held_words u.now h)) s.new result }
 {
     let n = g.states;
@@ -78,8 +72,8 @@ fn product(t: &Table, g: Machine, u: &Table, h: Machine, s: &mut Table) -> Machi
     Machine {
         states: n * m,
         letters: a,
-        initial: initial,
-        finals: finals,
+        initial,
+        finals,
     }
 }
 

@@ -1,36 +1,62 @@
--- A line filled one block after another.
-use mathlib.Core.Path.{◌≡◌, ◌∙◌}
-use mathlib.Core.List.{List}
-use Prim.Native.Nat.{ℕ, suc, ◌<◌}
-use native.Mathlib.Nat.{not-suc-le-zero}
-use native.Mathlib.Omega.{arith}
-use lib.ListN.{length, get_or, set, length-set}
+-- Rows written into a line, one after another.
+use Rattle.std.proofs.Common.{◌≡◌, ℕ, zero, suc, ◌+◌, ◌-◌, ◌<◌, ◌≤◌, List, [], ◌∷◌, length, get_or, set, refl, ap, subst, length-set, ◌∙◌, arith, add-one}
+use native.Mathlib.Decide.{dec_lt}
 use lib.Seq.{get_or-set_same, get_or-set_other}
 use Rattle.automata.proofs.Below.{up_to}
-use Rattle.rows.specs.Table.{blocks}
+use Rattle.rows.specs.declared.Row.{Row}
+use Rattle.rows.specs.Row.{mask_at}
+use Rattle.kernels.specs.Products.{Put}
 
--- The first m entries of a line are those of f.
-abbrev pub Lined : ℕ → (ℕ → ℕ) → List ℕ → Type 0
-Lined m f s = (length s ≡ blocks) × ((l : ℕ) → l < m → get_or s l 0 ≡ f l)
+-- One more row.
+pub put_step : (l k : ℕ) (x : List Row) (s t : List ℕ) → l + k < length t → Put l k x s t → Put l (k + 1) x s (set t (l + k) (mask_at x k))
+put_step l k x s t h p = record {
+  rows = λ j g. up_to {Q = λ j. get_or (set t (l + k) (mask_at x k)) (l + j) 0 ≡ mask_at x j} k
+      (λ i f. get_or-set_other t (l + k) (l + i) (mask_at x k) 0 (omega arith) ∙ p.rows i f)
+      (get_or-set_same t (l + k) (mask_at x k) 0 h)
+      j (rw add-one at g);
+  lower = λ i g. get_or-set_other t (l + k) i (mask_at x k) 0 (omega arith) ∙ p.lower i g;
+  size = length-set t (l + k) (mask_at x k) ∙ p.size;
+}
 
--- One more.
-pub line_step : (m : ℕ) (f : ℕ → ℕ) (s : List ℕ) (v : ℕ) → m < blocks → v ≡ f m → Lined m f s → Lined (suc m) f (set s m v)
-line_step m f s v h e L = (
-  length-set s m v ∙ L.0,
-  up_to {Q = λ l. get_or (set s m v) l 0 ≡ f l} m
-      (λ l g. get_or-set_other s m l v 0 (omega arith) ∙ L.1 l g)
-      (get_or-set_same s m v 0 (omega (arith, L.0)) ∙ e),
-)
+-- What stands at the place i of the rows written, where row k is f of the block named for k, and these go up by one from l on.
+pub put_blocks : (f : ℕ → ℕ) (l n : ℕ) (bs : List ℕ) {x : List Row} {s t : List ℕ} → ((k : ℕ) → k < n → get_or bs k 0 ≡ l + k)
+    → ((k : ℕ) → k < n → mask_at x k ≡ f (get_or bs k 0)) → Put l n x s t → (i : ℕ) → l ≤ i → i < l + n → get_or t i 0 ≡ f i
+put_blocks f l n bs {t = t} named made p i h g =
+    let k : i - l < n = omega arith in
+    subst (λ j. get_or t j 0 ≡ f j) (omega arith) (p.rows (i - l) k ∙ made (i - l) k ∙ ap f (named (i - l) k))
 
--- The first two, the first four and all eight.
-pub line_two : (f : ℕ → ℕ) (s : List ℕ) (v₀ v₁ : ℕ) → length s ≡ blocks → v₀ ≡ f 0 → v₁ ≡ f 1 → Lined 2 f (set (set s 0 v₀) 1 v₁)
-line_two f s v₀ v₁ h e₀ e₁ = line_step 1 f (set s 0 v₀) v₁ (omega arith) e₁ (line_step 0 f s v₀ (omega arith) e₀ (h, λ l z. absurd (not-suc-le-zero z)))
+-- The numbers of the first blocks, in order.
+first_two : (k : ℕ) → k < 2 → get_or (0 ∷ 1 ∷ []) k 0 ≡ 0 + k
+first_two zero h = refl
+first_two (suc zero) h = refl
+first_two (suc (suc k)) h = absurd (omega arith)
 
-pub line_four : (f : ℕ → ℕ) (s : List ℕ) (v₀ v₁ v₂ v₃ : ℕ) → length s ≡ blocks → v₀ ≡ f 0 → v₁ ≡ f 1 → v₂ ≡ f 2 → v₃ ≡ f 3 → Lined 4 f (set (set (set (set s 0 v₀) 1 v₁) 2 v₂) 3 v₃)
-line_four f s v₀ v₁ v₂ v₃ h e₀ e₁ e₂ e₃ =
-    line_step 3 f (set (set (set s 0 v₀) 1 v₁) 2 v₂) v₃ (omega arith) e₃ (line_step 2 f (set (set s 0 v₀) 1 v₁) v₂ (omega arith) e₂ (line_two f s v₀ v₁ h e₀ e₁))
+first_four : (k : ℕ) → k < 4 → get_or (0 ∷ 1 ∷ 2 ∷ 3 ∷ []) k 0 ≡ 0 + k
+first_four zero h = refl
+first_four (suc zero) h = refl
+first_four (suc (suc zero)) h = refl
+first_four (suc (suc (suc zero))) h = refl
+first_four (suc (suc (suc (suc k)))) h = absurd (omega arith)
 
-pub line_eight : (f : ℕ → ℕ) (s : List ℕ) (v₄ v₅ v₆ v₇ : ℕ) → v₄ ≡ f 4 → v₅ ≡ f 5 → v₆ ≡ f 6 → v₇ ≡ f 7 → Lined 4 f s → Lined 8 f (set (set (set (set s 4 v₄) 5 v₅) 6 v₆) 7 v₇)
-line_eight f s v₄ v₅ v₆ v₇ e₄ e₅ e₆ e₇ L =
-    line_step 7 f (set (set (set s 4 v₄) 5 v₅) 6 v₆) v₇ (omega arith) e₇ (line_step 6 f (set (set s 4 v₄) 5 v₅) v₆ (omega arith) e₆
-    (line_step 5 f (set s 4 v₄) v₅ (omega arith) e₅ (line_step 4 f s v₄ (omega arith) e₄ L)))
+next_four : (k : ℕ) → k < 4 → get_or (4 ∷ 5 ∷ 6 ∷ 7 ∷ []) k 0 ≡ 4 + k
+next_four zero h = refl
+next_four (suc zero) h = refl
+next_four (suc (suc zero)) h = refl
+next_four (suc (suc (suc zero))) h = refl
+next_four (suc (suc (suc (suc k)))) h = absurd (omega arith)
+
+-- The first two, the first four, and the four after these.
+pub put_two : (f : ℕ → ℕ) {x : List Row} {s t : List ℕ} → ((k : ℕ) → k < 2 → mask_at x k ≡ f (get_or (0 ∷ 1 ∷ []) k 0)) → Put 0 2 x s t → (i : ℕ) → i < 2 → get_or t i 0 ≡ f i
+put_two f made p i h = put_blocks f 0 2 (0 ∷ 1 ∷ []) first_two made p i (omega arith) (omega arith)
+
+pub put_four : (f : ℕ → ℕ) {x : List Row} {s t : List ℕ} → ((k : ℕ) → k < 4 → mask_at x k ≡ f (get_or (0 ∷ 1 ∷ 2 ∷ 3 ∷ []) k 0)) → Put 0 4 x s t
+    → (i : ℕ) → i < 4 → get_or t i 0 ≡ f i
+put_four f made p i h = put_blocks f 0 4 (0 ∷ 1 ∷ 2 ∷ 3 ∷ []) first_four made p i (omega arith) (omega arith)
+
+pub put_eight : (f : ℕ → ℕ) {x : List Row} {s t : List ℕ} → ((i : ℕ) → i < 4 → get_or s i 0 ≡ f i) → ((k : ℕ) → k < 4 → mask_at x k ≡ f (get_or (4 ∷ 5 ∷ 6 ∷ 7 ∷ []) k 0))
+    → Put 4 4 x s t → (i : ℕ) → i < 8 → get_or t i 0 ≡ f i
+put_eight f {s = s} {t = t} old made p i h = go (dec_lt i 4)
+  where
+    go : Dec (i < 4) → get_or t i 0 ≡ f i
+    go (yes g) = p.lower i g ∙ old i g
+    go (no g) = put_blocks f 4 4 (4 ∷ 5 ∷ 6 ∷ 7 ∷ []) next_four made p i (omega arith) (omega arith)

@@ -2,12 +2,12 @@
 use Rattle.std.proofs.Common.{◌≡◌, ℕ, ◌+◌, ◌-◌, ◌≤◌, List, ◌++◌, None, Some, IfSome, Option, length, take, replicate, sym, ap, subst, ◌∙◌, append-nil, take_at, length-take-le}
 use Rattle.std.specs.Io.KnownBytes.{Consumes, IsAtEnd}
 use Rattle.std.proofs.KnownBytes.{Consumes-trans}
+use Rattle.std.specs.Prelude.{Result, Ok, Err}
+use Rattle.std.specs.declared.io.Error.{Error}
 use Rattle.marking_io.specs.Calls.{Reads}
 use Rattle.marking_io.specs.Program.{MarksRead, MarksFrom}
-use Rattle.marking_io.specs.declared.Input.{Input}
-use Rattle.marking_io.specs.declared.Input.TheVariants.{Got, Unread}
-use Rattle.marking_io.specs.declared.Marking.{Marking}
-use Rattle.marking_io.specs.declared.Marking.TheVariants.{Done, Unreadable, Unwritable}
+use Rattle.marking_io.specs.declared.MarkError.{MarkError}
+use Rattle.marking_io.specs.declared.MarkError.TheVariants.{Unreadable, Unwritable}
 use borrow.Rule.Slice.PartMut.{post_of, put_mid}
 use lib.ListN.{length-replicate}
 use lib.Seq.{take-append-le, take-append-add, take_all}
@@ -43,8 +43,8 @@ module _ (n k : ℕ) (b back : List ℕ) (h : n ≤ length b) (g : k ≤ length 
   read_behind x y z p q = subst (Consumes x z) (sym front) (Consumes-trans x y z (take n b) (take k back) p q)
 
 -- The script that is marked is the one that was read.
-pub marks_from : (i : Input) (m : Marking) (left old new : Option (List ℕ)) (b : List ℕ) → Reads i left b → MarksRead i m old new b → MarksFrom left m old new
-marks_from (Got k) Done left old new b p q = (take k b, p, q)
-marks_from (Got k) (Unreadable e) left old new b p q = absurd q
-marks_from (Got k) (Unwritable e) left old new b p q = (take k b, p, q)
-marks_from (Unread e) m left old new b p q = subst (λ (x : Marking). MarksFrom left x old new) (sym q.0) q.1
+pub marks_from : (i : Result ℕ Error) (m : Result Unit MarkError) (left old new : Option (List ℕ)) (b : List ℕ) → Reads i left b → MarksRead i m old new b → MarksFrom left m old new
+marks_from (Ok k) (Ok done) left old new b p q = (take k b, p, q)
+marks_from (Ok k) (Err (Unreadable e)) left old new b p q = absurd q
+marks_from (Ok k) (Err (Unwritable e)) left old new b p q = (take k b, p, q)
+marks_from (Err e) m left old new b p q = subst (λ (x : Result Unit MarkError). MarksFrom left x old new) (sym q.0) q.1

@@ -1,7 +1,7 @@
 -- The lines of the indices from 0 on, put one behind another: none at first, each time one more, and the text at the first index without
 -- one. A script has one text.
 use mathlib.Core.Path.{◌≡◌, refl, sym, ap, subst, ◌∙◌}
-use mathlib.Core.List.{List, [], ◌∷◌, ◌++◌, append-nil}
+use mathlib.Core.List.{List, [], ◌++◌}
 use Prim.Native.Nat.{ℕ, ◌+◌, ◌*◌, ◌≤◌, ◌<◌}
 use native.Mathlib.Decide.{dec_lt}
 use native.Mathlib.Numerals.{add-one}
@@ -69,25 +69,6 @@ module _ (s : List ℕ) where
         short = omega (arith, b.short);
         most = omega (arith, below);
       }
-
-    -- There is none: they are the text.
-    nothing : (xs : List ℕ) → length xs ≡ 0 → xs ≡ []
-    nothing [] e = refl
-    nothing (x ∷ xs) e = absurd (omega arith)
-
-    pub all_lines : r ≡ n → (n ≤ length out) × IsText s (take n out)
-    all_lines e =
-        let none : length line ≡ 0 = omega (arith, count) in (
-          subst (λ k. k ≤ length out) e p.within,
-          record {
-            count = index;
-            bytes =
-                subst (λ k. take k out ≡ lines_below s index) e
-                (p.bytes ∙ ap (λ x. take n before ++ x) (nothing line none) ∙ append-nil (take n before) ∙ b.bytes.bytes);
-            each = b.each;
-            last = none;
-          },
-        )
 
   -- A script has one text.
   pub text_unique : (t u : List ℕ) → IsText s t → IsText s u → t ≡ u

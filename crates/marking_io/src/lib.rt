@@ -10,7 +10,9 @@ ghost use Rattle.walk.specs.Walk.{place_of};
 ghost use Rattle.lines.specs.Lines.{longest, Begins};
 ghost use Rattle.marking.specs.Marking.{mark_line};
 ghost use Rattle.marking_io.specs.Text.{IsText, read_bytes, text_room};
-ghost use Rattle.marking_io.specs.Calls.{Within, Took, Received, script_in, Reads, Gave, Sent, Prints};
+ghost use Rattle.std.specs.Io.{ReadsAtMost, WritesAtMost};
+ghost use Rattle.std.specs.Io.KnownBytes.{ReadConsumes, WriteAppends};
+ghost use Rattle.marking_io.specs.Calls.{Received, Reads, Sent, Prints};
 ghost use Rattle.marking_io.specs.Program.{MarksRead, MarksFrom};
 
 #[cfg(test)]
@@ -24,48 +26,22 @@ use std::io::{Error, ErrorKind, Read, Write};
 // A script has at most 65,536 bytes. One byte more is read, and marking then says that the script is too long.
 const READ: usize = 65537;
 
+// No script has a line of this index or of one after it.
+const LINES: usize = 4370;
+
 // The bytes of the buffer for the text: at most 4,370 lines of at most 160 bytes, and room for one line more.
 const TEXT: usize = 699360;
 
 // How often a call is made that signals interrupt: every function ends, and no run uses this up.
 const TRIES: usize = 1000000000;
 
-// What one read or write call did.
+// What failed in the marking of a script, and the system's error.
 #[derive(Clone, Copy)]
-enum Call {
-    // It moved so many bytes.
-    Moved { count: usize },
-    // It failed.
-    Broken { error: Error },
-}
-
-// What was read.
-#[derive(Clone, Copy)]
-enum Input {
-    // So many bytes: all up to the input's end, or as many as there was room for.
-    Got { length: usize },
-    // A read call failed.
-    Unread { error: Error },
-}
-
-// How printing ends.
-#[derive(Clone, Copy)]
-enum Printed {
-    // With so many bytes handed over.
-    All { length: usize },
-    // With a write call that failed.
-    Unwritten { error: Error },
-}
-
-// How the marking of a script ends.
-#[derive(Clone, Copy)]
-pub enum Marking {
-    // Its text has been printed.
-    Done,
+pub enum MarkError {
     // A read call failed, and nothing has been printed.
-    Unreadable { error: Error },
+    Unreadable(Error),
     // A write call failed, and what has been printed is no finished marking.
-    Unwritable { error: Error },
+    Unwritable(Error),
 }
 
 // Puts the line of an index, whose record stands at a position, behind the first n bytes of a text, and answers how many bytes the
@@ -88,120 +64,108 @@ fn fill(script: &[u8], out: &mut [u8]) -> usize
     ensures text { IsText script.now (take result out.new) }
 {
     let mut n = 0;
-    let mut index = 0;
     let mut at = 0;
-    loop {
+    for index in 0..=LINES {
         let more = put_line(script, index, at, out, n);
         if more == n {
             return n;
         }
         at = walk::past(script, index, at);
-        index += 1;
         n = more;
     }
+    n
 }
 
 // One read into a lent buffer. A call that a signal interrupts before it moved a byte is made again.
-fn read_some<R: Read>(reader: &mut R, rest: &mut [u8]) -> Call
-    ensures within { Within result (length rest.old) }
-    ensures bytes { Took result (R.remaining reader.old) (R.remaining reader.new) rest.new }
+fn read_some<R: Read>(reader: &mut R, rest: &mut [u8]) -> io::Result<usize>
+    ensures within { ReadsAtMost result rest.old }
+    ensures bytes { ReadConsumes (R.remaining reader.old) (R.remaining reader.new) result rest.new }
 {
     for _ in 0..TRIES {
         match reader.read(rest) {
-            Ok(count) => return Call::Moved { count },
-            Err(error) => {
-                if error.kind() != ErrorKind::Interrupted {
-                    return Call::Broken { error };
-                }
-            }
+            Err(error) if error.kind() == ErrorKind::Interrupted => {}
+            moved => return moved,
         }
     }
-    Call::Broken {
-        error: Error::from(ErrorKind::Interrupted),
-    }
+    Err(Error::from(ErrorKind::Interrupted))
 }
 
-// Reads until the buffer is full, the input ends or a call fails. A buffer of one byte more than a script may have is asked for, so that a
-// script that is too long is seen to be so.
-fn read_script<R: Read>(reader: &mut R, buffer: &mut [u8]) -> Input
+// Reads until the buffer is full, the input ends or a call fails, and answers how many bytes were read. A buffer of one byte more than a
+// script may have is asked for, so that a script that is too long is seen to be so.
+fn read_script<R: Read>(reader: &mut R, buffer: &mut [u8]) -> io::Result<usize>
     requires { length buffer.old ≡ read_bytes }
     ensures received { Received result (length buffer.old) }
     ensures script { Reads result (R.remaining reader.old) buffer.new }
 {
     let mut n = 0;
+    // A `for` is no plainer: each turn goes on by as many bytes as its call moved.
     while n < buffer.len() {
-        let count = match read_some(reader, &mut buffer[n..]) {
-            Call::Moved { count } => count,
-            Call::Broken { error } => return Input::Unread { error },
-        };
+        let count = read_some(reader, &mut buffer[n..])?;
         if count == 0 {
-            return Input::Got { length: n };
+            return Ok(n);
         }
         n += count;
     }
-    Input::Got { length: n }
+    Ok(n)
 }
 
 // One write of what is left of a text. The text and how much of it is done are for the contract alone.
-fn write_some<W: Write>(writer: &mut W, text: &[u8], done: usize, rest: &[u8]) -> Call
+fn write_some<W: Write>(writer: &mut W, text: &[u8], done: usize, rest: &[u8]) -> io::Result<usize>
     requires { rest.now ≡ drop done text.now }
-    ensures within { Within result (length rest.now) }
-    ensures bytes { Gave result (W.contents writer.old) (W.contents writer.new) rest.now }
+    ensures within { WritesAtMost result rest.now }
+    ensures bytes { WriteAppends (W.contents writer.old) (W.contents writer.new) result rest.now }
 {
     for _ in 0..TRIES {
         match writer.write(rest) {
-            Ok(count) => return Call::Moved { count },
-            Err(error) => {
-                if error.kind() != ErrorKind::Interrupted {
-                    return Call::Broken { error };
-                }
-            }
+            Err(error) if error.kind() == ErrorKind::Interrupted => {}
+            moved => return moved,
         }
     }
-    Call::Broken {
-        error: Error::from(ErrorKind::Interrupted),
-    }
+    Err(Error::from(ErrorKind::Interrupted))
 }
 
-// Prints a text: that of the script that was read. The input and how much of it was read are for the contract alone.
-fn print<W: Write>(writer: &mut W, input: &[u8], got: Input, text: &[u8]) -> Printed
-    requires { IsText (script_in got input.now) text.now }
+// Prints the text of a script, and answers how many bytes were handed over. The script is for the contract alone.
+fn print<W: Write>(writer: &mut W, script: &[u8], text: &[u8]) -> io::Result<usize>
+    requires { IsText script.now text.now }
     ensures sent { Sent result (length text.now) }
     ensures bytes { Prints result (W.contents writer.old) (W.contents writer.new) text.now }
 {
     let mut done = 0;
+    // A `for` is no plainer: each turn goes on by as many bytes as its call moved.
     while done < text.len() {
-        let count = match write_some(writer, text, done, &text[done..]) {
-            Call::Moved { count } => count,
-            Call::Broken { error } => return Printed::Unwritten { error },
-        };
+        let count = write_some(writer, text, done, &text[done..])?;
         if count == 0 {
-            let error = Error::from(ErrorKind::WriteZero);
-            return Printed::Unwritten { error };
+            return Err(Error::from(ErrorKind::WriteZero));
         }
         done += count;
     }
-    Printed::All { length: done }
+    Ok(done)
 }
 
-// Makes the text of the script that was read in a lent buffer and prints it.
-fn mark_into<W: Write>(writer: &mut W, out: &mut [u8], input: &[u8], got: Input) -> Marking
+// Makes the text of the script that was read in a lent buffer and prints it. What reading answered is handed in, so that the contract says
+// what becomes of a read that failed.
+fn mark_into<W: Write>(
+    writer: &mut W,
+    out: &mut [u8],
+    input: &[u8],
+    got: io::Result<usize>,
+) -> Result<(), MarkError>
     requires { (text_room ≤ length out.old) × Received got (length input.now) }
     ensures { MarksRead got result (W.contents writer.old) (W.contents writer.new) input.now }
 {
-    let n = match got {
-        Input::Got { length } => length,
-        Input::Unread { error } => return Marking::Unreadable { error },
-    };
-    let length = fill(&input[..n], out);
-    match print(writer, input, got, &out[..length]) {
-        Printed::All { length: _ } => Marking::Done,
-        Printed::Unwritten { error } => Marking::Unwritable { error },
-    }
+    let n = got.map_err(MarkError::Unreadable)?;
+    let script = &input[..n];
+    let length = fill(script, out);
+    print(writer, script, &out[..length]).map_err(MarkError::Unwritable)?;
+    Ok(())
 }
 
 // The same in a buffer of its own.
-fn mark_read<W: Write>(writer: &mut W, input: &[u8], got: Input) -> Marking
+fn mark_read<W: Write>(
+    writer: &mut W,
+    input: &[u8],
+    got: io::Result<usize>,
+) -> Result<(), MarkError>
     requires { Received got (length input.now) }
     ensures { MarksRead got result (W.contents writer.old) (W.contents writer.new) input.now }
 {
@@ -211,7 +175,7 @@ fn mark_read<W: Write>(writer: &mut W, input: &[u8], got: Input) -> Marking
 
 // Marks the script that a reader gives, in however many pieces, and prints its text to a writer. Where the script cannot be read, nothing is
 // printed.
-pub fn mark_script<R: Read, W: Write>(reader: &mut R, writer: &mut W) -> Marking
+pub fn mark_script<R: Read, W: Write>(reader: &mut R, writer: &mut W) -> Result<(), MarkError>
     ensures { MarksFrom (R.remaining reader.old) result (W.contents writer.old) (W.contents writer.new) }
 {
     let mut input = [0u8; READ];
@@ -238,9 +202,9 @@ pub fn fail(rt: &impl Eprint, what: &str, error: Error) {
 // what was to be read why.
 pub fn mark_from<R: Read>(rt: &(impl Print + Eprint), reader: &mut R, what: &str) {
     match mark_script(reader, &mut io::writer(rt)) {
-        Marking::Done => {}
-        Marking::Unreadable { error } => fail(rt, what, error),
-        Marking::Unwritable { error } => fail(rt, "mark: standard output", error),
+        Ok(()) => {}
+        Err(MarkError::Unreadable(error)) => fail(rt, what, error),
+        Err(MarkError::Unwritable(error)) => fail(rt, "mark: standard output", error),
     }
 }
 

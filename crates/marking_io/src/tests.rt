@@ -1,5 +1,5 @@
 // Readers and writers that move little at a time, are interrupted, or fail in between.
-use super::{Marking, mark_script};
+use super::{MarkError, mark_script};
 use std::alloc::Global;
 use std::io;
 use std::io::{Error, ErrorKind, Read, Write};
@@ -84,7 +84,7 @@ fn with_room(alloc: Global, room: usize) -> Narrow {
 fn what_moves_in_pieces_goes_on_to_the_whole_text(rt: HostRuntime) {
     let mut writer = with_room(rt.alloc(), 1000);
     let ends = mark_script(&mut in_pieces(&SCRIPT, false), &mut writer);
-    assert!(rt; matches!(&ends, Marking::Done));
+    assert!(rt; ends.is_ok());
     assert_eq!(rt; writer.got.as_slice(), LINES.as_bytes());
 }
 
@@ -92,7 +92,7 @@ fn what_moves_in_pieces_goes_on_to_the_whole_text(rt: HostRuntime) {
 fn nothing_is_printed_where_a_read_fails(rt: HostRuntime) {
     let mut writer = with_room(rt.alloc(), 1000);
     match mark_script(&mut in_pieces(&SCRIPT[..50], true), &mut writer) {
-        Marking::Unreadable { error } => assert!(rt; error.kind() == ErrorKind::IsADirectory),
+        Err(MarkError::Unreadable(error)) => assert!(rt; error.kind() == ErrorKind::IsADirectory),
         _ => assert!(rt; false),
     }
     assert!(rt; writer.got.is_empty());
@@ -102,7 +102,7 @@ fn nothing_is_printed_where_a_read_fails(rt: HostRuntime) {
 fn a_write_that_fails_is_told(rt: HostRuntime) {
     let mut writer = with_room(rt.alloc(), 20);
     match mark_script(&mut in_pieces(&SCRIPT, false), &mut writer) {
-        Marking::Unwritable { error } => assert!(rt; error.kind() == ErrorKind::StorageFull),
+        Err(MarkError::Unwritable(error)) => assert!(rt; error.kind() == ErrorKind::StorageFull),
         _ => assert!(rt; false),
     }
     assert_eq!(rt; writer.got.as_slice(), &LINES.as_bytes()[..20]);
@@ -112,5 +112,5 @@ fn a_write_that_fails_is_told(rt: HostRuntime) {
 fn an_empty_script_has_no_text(rt: HostRuntime) {
     let mut writer = with_room(rt.alloc(), 0);
     let ends = mark_script(&mut in_pieces(b"", false), &mut writer);
-    assert!(rt; matches!(&ends, Marking::Done));
+    assert!(rt; ends.is_ok());
 }

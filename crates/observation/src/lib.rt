@@ -13,8 +13,8 @@ use basis::{Basis, WIDEST};
 use elimination::Size;
 use rows::{Machine, Row, Table};
 
-// Row k of the basis by every letter, the products in a line.
-fn explore_letters(t: &Table, m: Machine, b: &mut Basis, s: Size, k: usize) -> Size
+// Row k of the basis by every letter.
+fn explore_row(t: &Table, m: Machine, b: &mut Basis, s: Size, k: usize) -> Size
     requires { Valid t.now m × Found m.letters t.now m.states (mask m.initial) (mask m.finals) b.old s.count (mask s.pivots) (mask s.used) × (k < s.count) }
     ensures { Expanded m.letters t.now m.states (mask m.initial) (mask m.finals) b.old s.count k b.new result.count (mask result.pivots) (mask result.used) }
 {
@@ -22,26 +22,11 @@ fn explore_letters(t: &Table, m: Machine, b: &mut Basis, s: Size, k: usize) -> S
     let mut y = [0u64; 8];
     reduction::multiply(t, a, b, k, &mut y);
     let mut r = s;
-    let mut l: usize = 0;
-    while l < a {
+    for l in 0..a {
         let z = kernels::pick(&y, l);
         r = elimination::insert(b, WIDEST, m.states, r, z);
-        l += 1;
     }
     r
-}
-
-// Row k by every letter. Over one letter there is no line.
-fn explore_row(t: &Table, m: Machine, b: &mut Basis, s: Size, k: usize) -> Size
-    requires { Valid t.now m × Found m.letters t.now m.states (mask m.initial) (mask m.finals) b.old s.count (mask s.pivots) (mask s.used) × (k < s.count) }
-    ensures { Expanded m.letters t.now m.states (mask m.initial) (mask m.finals) b.old s.count k b.new result.count (mask result.pivots) (mask result.used) }
-{
-    if m.letters == 1 {
-        let x = basis::get(b, WIDEST, 1, k);
-        let y = rows::times(t, 0, x);
-        return elimination::insert(b, WIDEST, m.states, s, y);
-    }
-    explore_letters(t, m, b, s, k)
 }
 
 // From how many letters on the row found last comes next. Over fewer it finds no basis sooner.
@@ -89,18 +74,6 @@ pub fn explore(t: &Table, m: Machine, b: &mut Basis) -> Size
     requires { Valid t.now m × (length b.old ≡ basis_size) }
     ensures { Explored m.letters t.now m.states (mask m.initial) (mask m.finals) b.new result.count (mask result.pivots) (mask result.used) }
 {
-    let i = m.initial;
-    let none = rows::none();
-    let s = elimination::insert(
-        b,
-        WIDEST,
-        m.states,
-        Size {
-            count: 0,
-            pivots: none,
-            used: none,
-        },
-        i,
-    );
+    let s = elimination::insert(b, WIDEST, m.states, Size::empty(), m.initial);
     explore_rows(t, m, b, s)
 }

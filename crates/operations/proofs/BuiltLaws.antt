@@ -1,19 +1,17 @@
 -- The automata that the operations build in tables accept the words of the result.
-use mathlib.Core.Path.{◌≡◌, refl, sym, ap, ap₂, subst, ◌∙◌}
-use mathlib.Core.List.{List, reverse}
+use mathlib.Core.Path.{◌≡◌, refl, sym, ap, subst, ◌∙◌}
+use mathlib.Core.List.{List}
 use Prim.Native.Nat.{ℕ, ◌+◌, ◌*◌, ◌^◌, ◌<◌, ◌≤◌}
 use native.Mathlib.Omega.{arith}
 use lib.Bits.{bit_xor}
 use Rattle.automata.specs.Xor.{◌⊕◌}
 use Rattle.automata.specs.Mask.{bit_of}
-use Rattle.automata.specs.Automaton.{accepts}
+use Rattle.automata.specs.Automaton.{Automaton, accepts}
 use Rattle.automata.specs.Language.{Language, Same, symmetric_difference, complement, reversal}
 use Rattle.automata.specs.Minimal.{SameBits}
 use Rattle.automata.specs.Operations.{sum_of, all_words, mirror_of}
-use Rattle.automata.proofs.Shortlex.{over_reverse}
 use Rattle.automata.proofs.Minimal.{bits_language}
 use Rattle.automata.proofs.Operations.{accepts_sum, accepts_complement, accepts_mirror}
-use Rattle.automata.proofs.Concatenation.{concatenation_same}
 use Rattle.rows.specs.declared.Machine.{Machine}
 use Rattle.rows.specs.Row.{width, mask}
 use Rattle.rows.specs.Table.{blocks, at, stored}
@@ -29,9 +27,6 @@ use Rattle.record.specs.Record.{letters_of, automaton_of}
 use Rattle.record.specs.Held.{Holds}
 use Rattle.results.specs.Built.{Built}
 use Rattle.results.proofs.BuiltLaws.{built, built_same, held_words_lem}
-use Rattle.operations.specs.Operations.{binary_language}
-use Rattle.operations.specs.declared.Binary.{Binary}
-use Rattle.operations.specs.declared.Binary.TheVariants.{Sum, Product}
 
 -- ---- sum
 
@@ -51,19 +46,21 @@ module _ (t u s : List ℕ) (g h : Machine) (ok : Valid t g) (ok' : Bounded g.le
       ∙ sym (bits_language g.letters (auto s (n + k) x y) (sum_of (automaton_in t g) (automaton_in u h))
       (sum_bits g.letters t n (mask g.initial) (mask g.finals) u k (mask h.initial) (mask h.finals) ok ok' s S) w ow))
 
--- ---- two records
+-- ---- records
 
--- An operation on two languages asks for their words over the letters alone.
-binary_same : (k : Binary) (a : ℕ) (K M L N : Language) → Same a K M → Same a L N → Same a (binary_language k K L) (binary_language k M N)
-binary_same Sum a K M L N h g w ow = ap₂ ◌⊕◌ (h w ow) (g w ow)
-binary_same Product a K M L N h g w ow = concatenation_same a K M L N h g w ow
-
-pub join_held : (k : Binary) (bs cs t u s : List ℕ) (g h r : Machine) → letters_of bs ≡ letters_of cs → Holds bs t g → Holds cs u h → Built g.letters (binary_language k (accepts (automaton_in t g)) (accepts (automaton_in u h))) s r
-    → Built (letters_of bs) (binary_language k (accepts (automaton_of bs)) (accepts (automaton_of cs))) s r
-join_held k bs cs t u s g h r e G H B =
-    built_same g.letters (letters_of bs) (binary_language k (accepts (automaton_in t g)) (accepts (automaton_in u h))) (binary_language k (accepts (automaton_of bs)) (accepts (automaton_of cs))) s r G.letters
-    (binary_same k (letters_of bs) (accepts (automaton_of bs)) (accepts (automaton_in t g)) (accepts (automaton_of cs)) (accepts (automaton_in u h)) (held_words_lem bs t g G)
+-- The operation on the automata of two tables is that on the records that they hold.
+pub join_held : (op : Language → Language → Language) → ((a : ℕ) (K M L N : Language) → Same a K M → Same a L N → Same a (op K L) (op M N)) → (bs cs t u s : List ℕ) (g h r : Machine) → letters_of bs ≡ letters_of cs → Holds bs t g → Holds cs u h
+    → Built g.letters (op (accepts (automaton_in t g)) (accepts (automaton_in u h))) s r → Built (letters_of bs) (op (accepts (automaton_of bs)) (accepts (automaton_of cs))) s r
+join_held op same bs cs t u s g h r e G H B =
+    built_same g.letters (letters_of bs) (op (accepts (automaton_in t g)) (accepts (automaton_in u h))) (op (accepts (automaton_of bs)) (accepts (automaton_of cs))) s r G.letters
+    (same (letters_of bs) (accepts (automaton_of bs)) (accepts (automaton_in t g)) (accepts (automaton_of cs)) (accepts (automaton_in u h)) (held_words_lem bs t g G)
     (subst (λ a. Same a (accepts (automaton_of cs)) (accepts (automaton_in u h))) (sym e) (held_words_lem cs u h H))) B
+
+pub build_held : (op : Language → Language) → ((a : ℕ) (L K : Language) → Same a L K → Same a (op L) (op K)) → (bs t s : List ℕ) (g r : Machine) → Holds bs t g → Built g.letters (op (accepts (automaton_in t g))) s r
+    → Built (letters_of bs) (op (accepts (automaton_of bs))) s r
+build_held op same bs t s g r G B =
+    built_same g.letters (letters_of bs) (op (accepts (automaton_in t g))) (op (accepts (automaton_of bs))) s r G.letters
+    (same (letters_of bs) (accepts (automaton_of bs)) (accepts (automaton_in t g)) (held_words_lem bs t g G)) B
 
 -- ---- complement
 
@@ -90,24 +87,23 @@ all_bits a u F = record {
   step = λ l i j hl hi hj. ap (λ v. bit_of v j) (F.rows l i hl hi) ∙ bit_one j hj;
 }
 
-pub complement_held : (bs t u s : List ℕ) (g r : Machine) (x : ℕ) → x ≡ 1 → Holds bs t g → Filled g.letters 1 (λ l i. 1) u → Built g.letters (symmetric_difference (accepts (automaton_in t g)) (accepts (auto u 1 x x))) s r
-    → Built (letters_of bs) (complement (accepts (automaton_of bs))) s r
-complement_held bs t u s g r x e G F B =
-    built_same g.letters (letters_of bs) (symmetric_difference (accepts (automaton_in t g)) (accepts (auto u 1 1 1))) (complement (accepts (automaton_of bs))) s r G.letters
-    (λ w ow. sym (accepts_complement (automaton_of bs) w) ∙ accepts_sum (automaton_of bs) all_words w
-    ∙ ap₂ ◌⊕◌ (held_words_lem bs t g G w ow) (sym (bits_language (letters_of bs) (auto u 1 1 1) all_words (subst (λ a. SameBits a (auto u 1 1 1) all_words) G.letters (all_bits g.letters u F)) w ow)))
-    (subst (λ y. Built g.letters (symmetric_difference (accepts (automaton_in t g)) (accepts (auto u 1 y y))) s r) e B)
+pub complement_built : (t u s : List ℕ) (g r : Machine) (x : ℕ) → x ≡ 1 → Filled g.letters 1 (λ l i. 1) u → Built g.letters (symmetric_difference (accepts (automaton_in t g)) (accepts (auto u 1 x x))) s r
+    → Built g.letters (complement (accepts (automaton_in t g))) s r
+complement_built t u s g r x e F B =
+    let A : Automaton = automaton_in t g in
+    built_same g.letters g.letters (symmetric_difference (accepts A) (accepts (auto u 1 1 1))) (complement (accepts A)) s r refl
+    (λ w ow. sym (accepts_complement A w) ∙ accepts_sum A all_words w
+    ∙ ap (λ b. accepts A w ⊕ b) (sym (bits_language g.letters (auto u 1 1 1) all_words (all_bits g.letters u F) w ow)))
+    (subst (λ y. Built g.letters (symmetric_difference (accepts A) (accepts (auto u 1 y y))) s r) e B)
 
 -- ---- mirror
 
-pub mirror_held : (bs t s : List ℕ) (g r : Machine) → Holds bs t g → Transposed g.letters g.states t s
+pub mirror_built : (t s : List ℕ) (g r : Machine) → Valid t g → Transposed g.letters g.states t s
     → r.letters ≡ g.letters → r.states ≡ g.states → mask r.initial ≡ mask g.finals → mask r.finals ≡ mask g.initial
-    → Built (letters_of bs) (reversal (accepts (automaton_of bs))) s r
-mirror_held bs t s g r G T el es ei ef =
+    → Built g.letters (reversal (accepts (automaton_in t g))) s r
+mirror_built t s g r ok T el es ei ef =
     let n = g.states in
     let i = mask g.initial in
     let f = mask g.finals in
-    built_same g.letters (letters_of bs) (reversal (accepts (automaton_in t g))) (reversal (accepts (automaton_of bs))) s r G.letters
-    (λ w ow. held_words_lem bs t g G (reverse w) (over_reverse (letters_of bs) w ow))
-    (built g.letters (reversal (accepts (automaton_in t g))) s r n f i el es ei ef (transposed_bounded g.letters n i f t s G.valid T)
-    (λ w ow. sym (accepts_mirror (automaton_in t g) w) ∙ sym (bits_language g.letters (auto s n f i) (mirror_of (automaton_in t g)) (transposed_bits g.letters n i f t s T) w ow)))
+    built g.letters (reversal (accepts (automaton_in t g))) s r n f i el es ei ef (transposed_bounded g.letters n i f t s ok T)
+    (λ w ow. sym (accepts_mirror (automaton_in t g) w) ∙ sym (bits_language g.letters (auto s n f i) (mirror_of (automaton_in t g)) (transposed_bits g.letters n i f t s T) w ow))

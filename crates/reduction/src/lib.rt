@@ -36,17 +36,21 @@ pub fn step(
     q.size
 }
 
-// The products of row k of the basis with the first a letters, in a line.
+// The products of row k of the basis with the first a letters, in a line. Over one letter there is no matrix beside the first.
 pub fn multiply(t: &Table, a: usize, b: &Basis, k: usize, y: &mut Line)
     requires { (a ≤ blocks) × (length b.now ≡ basis_size) × (k < width) × (length y.old ≡ blocks) }
     ensures { (n : ℕ) → cell width b.now 1 k < 2 ^ n → Products a n (cell width b.now 1 k) (at t.now) y.new }
 {
     let x = basis::get(b, WIDEST, 1, k);
+    if a == 1 {
+        kernels::put(y, 0, rows::times(t, 0, x));
+        return;
+    }
     kernels::times_all(t, a, x, y);
 }
 
-// Row k by every letter, the products in a line.
-fn expand_letters(t: &Table, m: Machine, b: &mut Basis, out: &mut Table, s: Size, k: usize) -> Size
+// Row k by every letter.
+pub fn expand(t: &Table, m: Machine, b: &mut Basis, out: &mut Table, s: Size, k: usize) -> Size
     requires { Valid t.now m × Searching m.letters t.now m.states (mask m.initial) (mask m.finals) b.old out.old s.count k 0 (mask s.pivots) (mask s.used) × (k < s.count) }
     ensures { Searching m.letters t.now m.states (mask m.initial) (mask m.finals) b.new out.new result.count (k + 1) 0 (mask result.pivots) (mask result.used) × (s.count ≤ result.count) }
 {
@@ -54,27 +58,11 @@ fn expand_letters(t: &Table, m: Machine, b: &mut Basis, out: &mut Table, s: Size
     let mut y = [0u64; 8];
     multiply(t, a, b, k, &mut y);
     let mut r = s;
-    let mut l: usize = 0;
-    while l < a {
+    for l in 0..a {
         let z = kernels::pick(&y, l);
         r = step(t, m, b, out, z, r, k, l);
-        l += 1;
     }
     r
-}
-
-// Row k by every letter. Over one letter there is no line.
-pub fn expand(t: &Table, m: Machine, b: &mut Basis, out: &mut Table, s: Size, k: usize) -> Size
-    requires { Valid t.now m × Searching m.letters t.now m.states (mask m.initial) (mask m.finals) b.old out.old s.count k 0 (mask s.pivots) (mask s.used) × (k < s.count) }
-    ensures { Searching m.letters t.now m.states (mask m.initial) (mask m.finals) b.new out.new result.count (k + 1) 0 (mask result.pivots) (mask result.used) × (s.count ≤ result.count) }
-{
-    let a = m.letters;
-    if a == 1 {
-        let x = basis::get(b, WIDEST, 1, k);
-        let y = rows::times(t, 0, x);
-        return step(t, m, b, out, y, s, k, 0);
-    }
-    expand_letters(t, m, b, out, s, k)
 }
 
 // Row k of the basis times letter l, which is y, where as many rows are found as there are states: it is an xor of them, and the first g
@@ -115,11 +103,9 @@ fn look_up_row(
     let a = m.letters;
     let mut y = [0u64; 8];
     multiply(t, a, b, k, &mut y);
-    let mut l: usize = 0;
-    while l < a {
+    for l in 0..a {
         let z = kernels::pick(&y, l);
         look_up(t, m, b, tab, g, out, z, s, k, l);
-        l += 1;
     }
 }
 
@@ -132,10 +118,8 @@ fn look_up_rows(t: &Table, m: Machine, b: &Basis, out: &mut Table, s: Size, firs
     let p = s.pivots;
     let mut tab = [0u64; 256];
     let g = lookup::fill(b, WIDEST, 2, p, &mut tab);
-    let mut k = first;
-    while k < d {
+    for k in first..d {
         look_up_row(t, m, b, &tab, g, out, s, k);
-        k += 1;
     }
 }
 
@@ -174,14 +158,12 @@ pub fn column(b: &Basis, n: usize, d: usize, f: Row) -> Row
     ensures { Column n b.now d (mask f) (mask result) × (mask result < 2 ^ d) }
 {
     let mut y = rows::none();
-    let mut i: usize = 0;
-    while i < d {
+    for i in 0..d {
         let x = basis::get(b, WIDEST, 1, i);
         let o = rows::parity(x, f);
         let u = rows::unit(i);
         let v = rows::when(o, u);
         y = rows::xor(y, v);
-        i += 1;
     }
     y
 }
@@ -195,18 +177,7 @@ pub fn reduce(t: &Table, m: Machine, b: &mut Basis, out: &mut Table, most: usize
     let n = m.states;
     let i = m.initial;
     let f = m.finals;
-    let none = rows::none();
-    let q = elimination::place(
-        b,
-        WIDEST,
-        n,
-        Size {
-            count: 0,
-            pivots: none,
-            used: none,
-        },
-        i,
-    );
+    let q = elimination::place(b, WIDEST, n, Size::empty(), i);
     let s = search(t, m, b, out, q.size, most);
     let d = s.count;
     let c = column(b, n, d, f);

@@ -5,17 +5,16 @@ ghost use Rattle.std.specs.Prelude.{◌≡◌, length};
 ghost use Rattle.rows.specs.Table.{size};
 ghost use Rattle.rows.specs.Machine.{automaton_in, Valid};
 ghost use Rattle.record.specs.Outcome.{answer_in, buffer_in};
-ghost use Rattle.results.specs.Results.{result_of, pair_refusal};
+ghost use Rattle.results.specs.Results.{result_of};
 
-use operands::Pair;
-use record::Written;
+use record::{Refusal, Rule};
 use rows::{Machine, Table};
 
 const MAX_STATES: usize = 32;
 
 // The minimal record of the automaton of t and m, or refusal 11 or 12. The table t is left with the folded automaton, and the table c is for
 // work.
-pub fn finish(t: &mut Table, m: Machine, c: &mut Table, out: &mut [u8]) -> Written
+pub fn finish(t: &mut Table, m: Machine, c: &mut Table, out: &mut [u8]) -> Result<usize, Refusal>
     requires { Valid t.old m × (length c.old ≡ size) }
     ensures answer { result ≡ answer_in (result_of m.letters (automaton_in t.old m)) out.old }
     ensures buffer { out.new ≡ buffer_in (result_of m.letters (automaton_in t.old m)) out.old }
@@ -24,29 +23,7 @@ pub fn finish(t: &mut Table, m: Machine, c: &mut Table, out: &mut [u8]) -> Writt
     let g = minimisation::minimise(t, m, &mut b, c, MAX_STATES);
     let d = g.states;
     if MAX_STATES < d {
-        return Written::Refused {
-            number: 11,
-            record: 0,
-            place: d,
-        };
+        return Err(Rule::Dimension.of(0, d));
     }
     codec::write(c, g, out)
-}
-
-// A refusal of the checks, as the answer of an operation.
-pub fn refuse(p: Pair) -> Written
-    ensures { result ≡ pair_refusal p }
-{
-    match p {
-        Pair::Both => Written::Done { length: 0 },
-        Pair::Refused {
-            number,
-            record,
-            place,
-        } => Written::Refused {
-            number: number,
-            record: record,
-            place: place,
-        },
-    }
 }

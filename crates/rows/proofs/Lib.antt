@@ -4,6 +4,7 @@ pub mod Ones
 pub mod LoopLaws
 pub mod ParityLaws
 pub mod TableLaws
+pub mod MaskLaws
 pub mod ProductLaws
 pub mod BesideLaws
 pub mod DirectSum

@@ -2,5 +2,6 @@
 pub mod Row
 pub mod Table
 pub mod Product
+pub mod Each
 pub mod Beside
 pub mod Machine

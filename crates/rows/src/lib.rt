@@ -1,19 +1,38 @@
 // Rows over GF(2) as unsigned masks: bit j, worth 2^j, stands for state j. How wide a row is stands behind the names Row and
 // Table: the crates above use these functions and those of `kernels` alone, and their contracts name no width but `width`.
-#![tactic(auto)]
+#![tactic(auto, unfolding(crate::specs::Row::mask, crate::specs::Table::at, crate::specs::Table::stored))]
 
 ghost use Rattle.std.specs.Prelude.{◌≡◌, Bool, true, false, ◌&&◌, cond, ℕ, ◌+◌, ◌-◌, ◌*◌, ◌/◌, ◌^◌, ◌≤◌, ◌<◌, eqb, ltb};
 ghost use Rattle.std.specs.Int.Bits.{bit_xor, bit_and, bit_or};
 ghost use Rattle.automata.specs.Xor.{xor_below};
 ghost use Rattle.automata.specs.Mask.{bit_of};
-ghost use Rattle.rows.specs.Row.{width, levels, mask, stripes};
+ghost use Rattle.rows.specs.Row.{width, levels, mask, mask_at, stripes};
 ghost use Rattle.rows.specs.Table.{blocks, at, stored};
 ghost use Rattle.rows.specs.Product.{product};
+ghost use Rattle.rows.specs.Each.{Reads};
 
 // A row of `width` bits.
-#[derive(Clone, Copy)]
+#[derive(Clone, Copy, PartialEq, Eq)]
 pub struct Row {
     pub bits: u64,
+}
+
+// The row of a number's bits.
+impl From<u64> for Row {
+    ghost from_gives = { λ x r. mask r ≡ x };
+
+    fn from(x: u64) -> Row {
+        Row { bits: x }
+    }
+}
+
+// A row's bits as a number.
+impl From<Row> for u64 {
+    ghost from_gives = { λ r x. x ≡ mask r };
+
+    fn from(x: Row) -> u64 {
+        x.bits
+    }
 }
 
 // 8 blocks of `width` rows, lent: row i of block l stands at l * width + i.
@@ -211,17 +230,35 @@ pub fn store(t: &mut Table, l: usize, i: usize, x: Row)
     t[l * 64 + i] = x.bits;
 }
 
+// Adds row i of each of N matrices to the sum that is made for it.
+fn add_rows<const N: usize, F: Fn(usize, usize) -> Row>(y: &mut [Row; N], row: &F, i: usize)
+    requires { (i < width) × ((k : ℕ) → k < N → F.pre row.now k i) }
+    ensures { (M : ℕ → ℕ → ℕ) → Reads N (F.post row.now) M → (k : ℕ) → k < N → mask_at y.new k ≡ bit_xor (mask_at y.old k) (M k i) }
+{
+    for k in 0..N {
+        y[k] = xor(y[k], row(k, i));
+    }
+}
+
+// The row x times each of N matrices, in one pass over the bits of x: row(k, i) is row i of matrix k.
+pub fn times_each<const N: usize, F: Fn(usize, usize) -> Row>(x: Row, row: F) -> [Row; N]
+    requires { (N ≤ blocks) × ((k i : ℕ) → k < N → i < width → bit_of (mask x) i ≡ true → F.pre row k i) }
+    ensures { (M : ℕ → ℕ → ℕ) → Reads N (F.post row) M → (k n : ℕ) → k < N → mask x < 2 ^ n → mask_at result k ≡ product n (mask x) (M k) }
+{
+    let mut y = [none(); N];
+    let mut z = x;
+    while !is_none(z) {
+        add_rows(&mut y, &row, lowest(z));
+        z = clear_lowest(z);
+    }
+    y
+}
+
 // The row x times the matrix in block l: the xor of its rows at the bits of x, however many bits n x has.
 pub fn times(t: &Table, l: usize, x: Row) -> Row
     requires { l < blocks }
     ensures { (n : ℕ) → mask x < 2 ^ n → mask result ≡ product n (mask x) (at t.now l) }
 {
-    let b = l * 64;
-    let mut z = x.bits;
-    let mut y: u64 = 0;
-    while z != 0 {
-        y ^= t[b + u64::trailing_zeros(z) as usize];
-        z &= z - 1;
-    }
-    Row { bits: y }
+    let [y]: [Row; 1] = times_each(x, |_, i| load(t, l, i));
+    y
 }

@@ -12,15 +12,39 @@ ghost use Rattle.record.specs.Record.{states_of};
 ghost use Rattle.products.specs.Lines.{Single};
 ghost use Rattle.hunt.specs.Both.{beside_of, Paired};
 ghost use Rattle.hunt.specs.Hunt.{shared, HuntingIn, HuntedIn, EndedIn};
+ghost use Rattle.search.specs.Turn.{Gives, TurnedIn};
 
 use elimination::Size;
-use hunt::Hunt;
+use hunt::{Found, Hunt};
 use lookup::Lookup;
-use products::Three;
 use rows::{Machine, Row};
+use std::ops::ControlFlow;
 use trail::Trail;
 
-// Row k, which is x, by every letter, the products in a line.
+// Row k by every letter in turn; `times` gives its product by a letter.
+fn try_each<F: Fn(usize) -> Row>(
+    first: &[u8],
+    second: &[u8],
+    m: Machine,
+    b: &mut [u64],
+    stride: usize,
+    w: &mut Trail,
+    s: Size,
+    k: usize,
+    times: F,
+) -> Hunt
+    requires { Paired first.now second.now m × HuntingIn stride first.now second.now m b.old w.old s k 0 × (k < s.count) × Gives (F.pre times) (F.post times) m.letters m.states (cell stride b.old 1 k) (beside_of first.now second.now) }
+    ensures { HuntedIn stride first.now second.now m b.new w.new s.count (k + 1) 0 result }
+{
+    let mut r = s;
+    for l in 0..m.letters {
+        let y = times(l);
+        r = hunt::try_pair(first, second, m, b, stride, w, y, r, k, l)?;
+    }
+    ControlFlow::Continue(r)
+}
+
+// The same for row k, which is x, the products in a line.
 fn try_line(
     first: &[u8],
     second: &[u8],
@@ -35,21 +59,11 @@ fn try_line(
     requires { Paired first.now second.now m × HuntingIn stride first.now second.now m b.old w.old s k 0 × (k < s.count) × (mask x ≡ cell stride b.old 1 k) }
     ensures { HuntedIn stride first.now second.now m b.new w.new s.count (k + 1) 0 result }
 {
-    let a = m.letters;
     let mut y = [0u64; 8];
     pair_products::times_both(first, second, x, &mut y);
-    let mut r = s;
-    let mut l: usize = 0;
-    while l < a {
-        let z = kernels::pick(&y, l);
-        let h = hunt::try_pair(first, second, m, b, stride, w, z, r, k, l);
-        let Hunt::Going(next) = h else {
-            return h;
-        };
-        r = next;
-        l += 1;
-    }
-    Hunt::Going(r)
+    try_each(first, second, m, b, stride, w, s, k, |l| {
+        kernels::pick(&y, l)
+    })
 }
 
 // The same over two letters, the products made in one pass.
@@ -68,27 +82,8 @@ fn try_two(
     ensures { HuntedIn stride first.now second.now m b.new w.new s.count (k + 1) 0 result }
 {
     let p = pair_products::times_two_both(first, second, x);
-    let y = p.first;
-    let z = p.second;
-    let h = hunt::try_pair(first, second, m, b, stride, w, y, s, k, 0);
-    let Hunt::Going(next) = h else {
-        return h;
-    };
-    hunt::try_pair(first, second, m, b, stride, w, z, next, k, 1)
-}
-
-// Row l of three.
-fn pick(p: Three, l: usize) -> Row
-    requires { l < 3 }
-    ensures { (F : ℕ → ℕ) → mask p.first ≡ F 0 → mask p.second ≡ F 1 → mask p.third ≡ F 2 → mask result ≡ F l }
-{
-    if l == 0 {
-        return p.first;
-    }
-    if l == 1 {
-        return p.second;
-    }
-    p.third
+    let y = [p.first, p.second];
+    try_each(first, second, m, b, stride, w, s, k, |l| y[l])
 }
 
 // The same over three letters, the products made in one pass.
@@ -107,18 +102,8 @@ fn try_three(
     ensures { HuntedIn stride first.now second.now m b.new w.new s.count (k + 1) 0 result }
 {
     let p = pair_products::times_three_both(first, second, x);
-    let mut r = s;
-    let mut l: usize = 0;
-    while l < 3 {
-        let y = pick(p, l);
-        let h = hunt::try_pair(first, second, m, b, stride, w, y, r, k, l);
-        let Hunt::Going(next) = h else {
-            return h;
-        };
-        r = next;
-        l += 1;
-    }
-    Hunt::Going(r)
+    let y = [p.first, p.second, p.third];
+    try_each(first, second, m, b, stride, w, s, k, |l| y[l])
 }
 
 // The same over three letters or more.
@@ -158,20 +143,10 @@ fn try_single(
     requires { Paired first.now second.now m × HuntingIn stride first.now second.now m b.old w.old s k 0 × (k < s.count) × (mask x ≡ cell stride b.old 1 k) × (n ≡ states_of first.now) × Single (mask x / 2 ^ n) × Single (bit_xor (mask x) (mask x / 2 ^ n * 2 ^ n)) }
     ensures { HuntedIn stride first.now second.now m b.new w.new s.count (k + 1) 0 result }
 {
-    let a = m.letters;
     let j = record::size(second[5]);
-    let mut r = s;
-    let mut l: usize = 0;
-    while l < a {
-        let y = pair_products::times_singles(first, second, n, j, l, x);
-        let h = hunt::try_pair(first, second, m, b, stride, w, y, r, k, l);
-        let Hunt::Going(next) = h else {
-            return h;
-        };
-        r = next;
-        l += 1;
-    }
-    Hunt::Going(r)
+    try_each(first, second, m, b, stride, w, s, k, |l| {
+        pair_products::times_singles(first, second, n, j, l, x)
+    })
 }
 
 // Whether the table keeps the products of the row x by every letter.
@@ -201,21 +176,19 @@ fn pass_rows(
 {
     let mut tab = [0u64; 256];
     let g = lookup::fill(b, stride, 0, s.pivots, &mut tab);
-    let mut j = k;
-    while j < s.count {
+    for j in k..s.count {
         let x = basis::get(b, stride, 1, j);
         if !are_kept(first, second, m, x, &tab, g) {
             return j;
         }
-        j += 1;
     }
-    j
+    s.count
 }
 
-// What a row has come to, and the row that is next.
+// The rows found so far, and the row that is next.
 #[derive(Clone, Copy)]
 struct Turn {
-    hunt: Hunt,
+    size: Size,
     next: usize,
 }
 
@@ -231,33 +204,20 @@ fn try_many(
     s: Size,
     k: usize,
     x: Row,
-) -> Turn
+) -> ControlFlow<Found, Turn>
     requires { Paired first.now second.now m × HuntingIn stride first.now second.now m b.old w.old s k 0 × (k < s.count) × (mask x ≡ cell stride b.old 1 k) }
-    ensures { HuntedIn stride first.now second.now m b.new w.new result.next result.next 0 result.hunt × (k < result.next) }
+    ensures { TurnedIn stride first.now second.now m b.new w.new k result }
 {
-    let h = try_letters(first, second, m, b, stride, w, s, k, x);
-    let Hunt::Going(r) = h else {
-        return Turn {
-            hunt: h,
-            next: k + 1,
-        };
+    let r = try_letters(first, second, m, b, stride, w, s, k, x)?;
+    let next = if stride < basis::WIDEST || s.count < r.count {
+        k + 1
+    } else {
+        pass_rows(first, second, m, b, stride, r, k + 1)
     };
-    if stride < basis::WIDEST {
-        return Turn {
-            hunt: h,
-            next: k + 1,
-        };
-    }
-    if s.count < r.count {
-        return Turn {
-            hunt: h,
-            next: k + 1,
-        };
-    }
-    Turn {
-        hunt: h,
-        next: pass_rows(first, second, m, b, stride, r, k + 1),
-    }
+    ControlFlow::Continue(Turn {
+        size: r,
+        next: next,
+    })
 }
 
 // Row k by every letter, by the shortest way for so many letters, and for its bits, with the rows that are passed over after it.
@@ -270,28 +230,30 @@ fn try_row(
     w: &mut Trail,
     s: Size,
     k: usize,
-) -> Turn
+) -> ControlFlow<Found, Turn>
     requires { Paired first.now second.now m × HuntingIn stride first.now second.now m b.old w.old s k 0 × (k < s.count) }
-    ensures { HuntedIn stride first.now second.now m b.new w.new result.next result.next 0 result.hunt × (k < result.next) }
+    ensures { TurnedIn stride first.now second.now m b.new w.new k result }
 {
     let x = basis::get(b, stride, 1, k);
     if m.letters == 2 {
-        return Turn {
-            hunt: try_two(first, second, m, b, stride, w, s, k, x),
+        let r = try_two(first, second, m, b, stride, w, s, k, x)?;
+        return ControlFlow::Continue(Turn {
+            size: r,
             next: k + 1,
-        };
+        });
     }
     let n = record::size(first[5]);
     if pair_products::are_single(n, x) {
-        return Turn {
-            hunt: try_single(first, second, m, b, stride, w, s, k, x, n),
+        let r = try_single(first, second, m, b, stride, w, s, k, x, n)?;
+        return ControlFlow::Continue(Turn {
+            size: r,
             next: k + 1,
-        };
+        });
     }
     try_many(first, second, m, b, stride, w, s, k, x)
 }
 
-// Every row by every letter, until a row is accepted.
+// Every row by every letter, until a row is accepted. No range: there are more rows to try as rows are found, and some are passed over.
 fn try_rows(
     first: &[u8],
     second: &[u8],
@@ -307,15 +269,11 @@ fn try_rows(
     let mut r = s;
     let mut k: usize = 0;
     while k < r.count {
-        let t = try_row(first, second, m, b, stride, w, r, k);
-        let h = t.hunt;
-        let Hunt::Going(next) = h else {
-            return h;
-        };
-        r = next;
+        let t = try_row(first, second, m, b, stride, w, r, k)?;
+        r = t.size;
         k = t.next;
     }
-    Hunt::Going(r)
+    ControlFlow::Continue(r)
 }
 
 // The first accepted row of the two side by side, in shortlex order of the words that lead to the rows; the initial row is not accepted.

@@ -5,7 +5,7 @@
 ghost use Rattle.std.specs.Prelude.{◌≡◌, ◌+◌, ◌^◌, ◌≤◌, ◌<◌, length};
 ghost use Rattle.automata.specs.Cuts.{star};
 ghost use Rattle.rows.specs.Row.{width, mask};
-ghost use Rattle.rows.specs.Table.{blocks, size, at};
+ghost use Rattle.rows.specs.Table.{blocks, at};
 ghost use Rattle.rows.specs.Machine.{Valid};
 ghost use Rattle.direct_sum.specs.Filled.{Filled, Changed};
 ghost use Rattle.record.specs.Outcome.{answer_in, buffer_in};
@@ -18,31 +18,27 @@ use rows::{Machine, Row, Table};
 
 // The rows of letter l: where one of the n states is final, by the column f, its row gains r, which is the row of the new state n.
 fn renew_block(t: &mut Table, l: usize, n: usize, f: Row, r: Row)
-    requires { (l < blocks) × (n < width) × (length t.old ≡ size) }
+    requires { (l < blocks) × (n < width) }
     ensures { Changed l (n + 1) (renewed n (mask f) (mask r) (at t.old l)) t.old t.new }
 {
-    let mut k: usize = 0;
-    while k < n {
+    for k in 0..n {
         let x = rows::load(t, l, k);
         let b = rows::has(f, k);
         let y = rows::when(b, r);
         let z = rows::xor(x, y);
         rows::store(t, l, k, z);
-        k += 1;
     }
     rows::store(t, l, n, r);
 }
 
 // The same of each of a letters, with the row that the letter reaches from the initial row i.
 fn renew_rows(t: &mut Table, a: usize, n: usize, i: Row, f: Row)
-    requires { (a ≤ blocks) × (n < width) × (mask i < 2 ^ n) × (length t.old ≡ size) }
+    requires { (a ≤ blocks) × (n < width) × (mask i < 2 ^ n) }
     ensures { Filled a (n + 1) (star_rows (at t.old) n (mask i) (mask f)) t.new }
 {
-    let mut l: usize = 0;
-    while l < a {
+    for l in 0..a {
         let r = rows::times(t, l, i);
         renew_block(t, l, n, f, r);
-        l += 1;
     }
 }
 
@@ -62,7 +58,7 @@ fn repeat(t: &mut Table, g: Machine) -> Machine
         states: n + 1,
         letters: a,
         initial: new,
-        finals: finals,
+        finals,
     }
 }
 

@@ -2,10 +2,10 @@
 // row r goes to place r of row k, so r and k trade all their bits: stage b trades bit b, for all the rows of a block.
 #![tactic(auto)]
 
-ghost use Rattle.std.specs.Prelude.{◌≡◌, false, ℕ, ◌+◌, ◌^◌, ◌≤◌, ◌<◌, length};
+ghost use Rattle.std.specs.Prelude.{◌≡◌, false, ℕ, ◌+◌, ◌^◌, ◌≤◌, ◌<◌};
 ghost use Rattle.automata.specs.Mask.{bit_of};
 ghost use Rattle.rows.specs.Row.{width, levels, mask, stripes};
-ghost use Rattle.rows.specs.Table.{blocks, size, at, row};
+ghost use Rattle.rows.specs.Table.{blocks, at, row};
 ghost use Rattle.transpose.specs.Exchange.{padded, exchanged, swapped, staged, HasRows, OnlyBlock, Copied};
 ghost use Rattle.transpose.specs.Transposed.{Transposed};
 
@@ -22,7 +22,7 @@ fn power(w: usize) -> usize
 // Exchanges bit b in row r, whose number has no bit b, and in its partner r + 2 ^ b. The bits that trade stand at the places with
 // bit b in row r, and 2 ^ b below those in the partner: d is where they differ, at the places m without bit b.
 fn swap(t: &mut Table, l: usize, b: usize, m: Row, r: usize)
-    requires { (l < blocks) × (b < levels) × (mask m ≡ stripes b) × (r < width) × (bit_of r b ≡ false) × (length t.old ≡ size) }
+    requires { (l < blocks) × (b < levels) × (mask m ≡ stripes b) × (r < width) × (bit_of r b ≡ false) }
     ensures { OnlyBlock l t.old t.new × HasRows l width (swapped b r (row t.old l)) t.new }
 {
     let s = power(b);
@@ -40,36 +40,32 @@ fn swap(t: &mut Table, l: usize, b: usize, m: Row, r: usize)
 
 // Exchanges bit b in the 2 ^ b rows from q on, whose numbers have no bit b, and in their partners.
 fn swap_run(t: &mut Table, l: usize, b: usize, m: Row, q: usize)
-    requires { (l < blocks) × (b < levels) × (mask m ≡ stripes b) × (q + 2 ^ b ≤ width) × ((i : ℕ) → i < 2 ^ b → bit_of (q + i) b ≡ false) × (length t.old ≡ size) }
+    requires { (l < blocks) × (b < levels) × (mask m ≡ stripes b) × (q + 2 ^ b ≤ width) × ((i : ℕ) → i < 2 ^ b → bit_of (q + i) b ≡ false) }
     ensures { OnlyBlock l t.old t.new × HasRows l width (staged b q (q + 2 ^ b) (row t.old l)) t.new }
 {
     let e = q + power(b);
-    let mut r = q;
-    while r < e {
+    for r in q..e {
         swap(t, l, b, m, r);
-        r += 1;
     }
 }
 
 // Exchanges bit b in the first 2 ^ w rows of block l: those without bit b come in runs of 2 ^ b, and their partners after each run.
 fn stage(t: &mut Table, l: usize, w: usize, b: usize)
-    requires { (l < blocks) × (w ≤ levels) × (b < w) × (length t.old ≡ size) }
+    requires { (l < blocks) × (w ≤ levels) × (b < w) }
     ensures { OnlyBlock l t.old t.new × HasRows l (2 ^ w) (exchanged b (row t.old l)) t.new }
 {
     let m = rows::stripes(b);
     let n = power(w);
     let s = power(b);
-    let mut r: usize = 0;
-    while r < n {
+    for r in (0..n).step_by(2 * s) {
         swap_run(t, l, b, m, r);
-        r += 2 * s;
     }
 }
 
-// Stage b. Most runs are those of stages 0 to 2, of four rows at most: there b is a literal, so that the compiler makes no loop of
-// a run.
+// Stage b. Most runs are those of stages 0 to 2, of four rows at most: for speed b is a literal there, so that the compiler makes no
+// loop of a run.
 fn exchange(t: &mut Table, l: usize, w: usize, b: usize)
-    requires { (l < blocks) × (w ≤ levels) × (b < w) × (length t.old ≡ size) }
+    requires { (l < blocks) × (w ≤ levels) × (b < w) }
     ensures { OnlyBlock l t.old t.new × HasRows l (2 ^ w) (exchanged b (row t.old l)) t.new }
 {
     if b == 0 {
@@ -88,81 +84,64 @@ fn level(n: usize) -> usize
     requires { n ≤ width }
     ensures { (result ≤ levels) × (n ≤ 2 ^ result) }
 {
-    let mut w: usize = 0;
-    while power(w) < n {
-        w += 1;
-    }
-    w
+    n.next_power_of_two().ilog2() as usize
 }
 
-// Clears the rows of block l from n up to 2 ^ w, which may hold anything.
-fn clear(t: &mut Table, l: usize, n: usize, w: usize)
-    requires { (l < blocks) × (w ≤ levels) × (n ≤ 2 ^ w) × (length t.old ≡ size) }
-    ensures { OnlyBlock l t.old t.new × HasRows l (2 ^ w) (padded n (row t.old l)) t.new }
+// Clears the rows of block l from r up to n, which may hold anything.
+pub fn clear(t: &mut Table, l: usize, r: usize, n: usize)
+    requires { (l < blocks) × (r ≤ n) × (n ≤ width) }
+    ensures { OnlyBlock l t.old t.new × HasRows l n (padded r (row t.old l)) t.new }
 {
-    let none = rows::none();
-    let m = power(w);
-    let mut i = n;
-    while i < m {
-        rows::store(t, l, i, none);
-        i += 1;
+    for i in r..n {
+        rows::store(t, l, i, rows::none());
     }
 }
 
 // Transposes the matrix in block l, of 2 ^ w rows.
 fn turn(t: &mut Table, l: usize, w: usize)
-    requires { (l < blocks) × (w ≤ levels) × ((i : ℕ) → i < 2 ^ w → at t.old l i < 2 ^ (2 ^ w)) × (length t.old ≡ size) }
+    requires { (l < blocks) × (w ≤ levels) × ((i : ℕ) → i < 2 ^ w → at t.old l i < 2 ^ (2 ^ w)) }
     ensures { OnlyBlock l t.old t.new × HasRows l (2 ^ w) (λ i k. padded (2 ^ w) (row t.old l) k i) t.new }
 {
-    let mut b = w;
-    while b > 0 {
-        b -= 1;
+    for b in (0..w).rev() {
         exchange(t, l, w, b);
     }
 }
 
 // Transposes the n by n matrices in the first a blocks, in place.
 pub fn transpose(t: &mut Table, a: usize, n: usize)
-    requires { (a ≤ blocks) × (n ≤ width) × ((l i : ℕ) → l < a → i < n → at t.old l i < 2 ^ n) × (length t.old ≡ size) }
+    requires { (a ≤ blocks) × (n ≤ width) × ((l i : ℕ) → l < a → i < n → at t.old l i < 2 ^ n) }
     ensures { Transposed a n t.old t.new }
 {
     let w = level(n);
-    let mut l: usize = 0;
-    while l < a {
-        clear(t, l, n, w);
+    for l in 0..a {
+        clear(t, l, n, power(w));
         turn(t, l, w);
-        l += 1;
     }
 }
 
 // Copies the first n rows of block l of t into c.
 fn copy_rows(t: &Table, l: usize, n: usize, c: &mut Table)
-    requires { (l < blocks) × (n ≤ width) × (length c.old ≡ size) }
+    requires { (l < blocks) × (n ≤ width) }
     ensures { OnlyBlock l c.old c.new × ((i : ℕ) → i < n → at c.new l i ≡ at t.now l i) }
 {
-    let mut i: usize = 0;
-    while i < n {
-        let x = rows::load(t, l, i);
-        rows::store(c, l, i, x);
-        i += 1;
+    for i in 0..n {
+        rows::store(c, l, i, rows::load(t, l, i));
     }
 }
 
 // Copies the n by n matrices in the first a blocks of t into c.
 fn copy(t: &Table, a: usize, n: usize, c: &mut Table)
-    requires { (a ≤ blocks) × (n ≤ width) × (length c.old ≡ size) }
+    requires { (a ≤ blocks) × (n ≤ width) }
     ensures { Copied a n t.now c.new }
 {
-    let mut l: usize = 0;
-    while l < a {
+    for l in 0..a {
         copy_rows(t, l, n, c);
-        l += 1;
     }
 }
 
 // The transposes of the n by n matrices in the first a blocks of t, in c.
 pub fn transposed(t: &Table, a: usize, n: usize, c: &mut Table)
-    requires { (a ≤ blocks) × (n ≤ width) × ((l i : ℕ) → l < a → i < n → at t.now l i < 2 ^ n) × (length c.old ≡ size) }
+    requires { (a ≤ blocks) × (n ≤ width) × ((l i : ℕ) → l < a → i < n → at t.now l i < 2 ^ n) }
     ensures { Transposed a n t.now c.new }
 {
     copy(t, a, n, c);

@@ -3,12 +3,10 @@
 use mathlib.Core.Path.{◌≡◌, ap₂, ◌∙◌}
 use mathlib.Core.Bool.{true, false}
 use mathlib.Core.Logic.{◌⊎◌, inl, inr}
-use Prim.Native.Nat.{ℕ, suc, ◌+◌, ◌-◌, ◌^◌, ◌≤◌, ◌<◌}
+use Prim.Native.Nat.{ℕ, ◌+◌, ◌^◌, ◌≤◌, ◌<◌}
 use native.Mathlib.Nat.{eq-or-lt_of_le}
-use native.Mathlib.Numerals.{add-one}
 use native.Mathlib.Omega.{arith}
 use lib.Bits.{bit_xor, xor_lt}
-use lib.Count.{count_leading_zeros, leading_top}
 use Rattle.automata.specs.Xor.{◌⊕◌}
 use Rattle.automata.specs.Mask.{bit_of}
 use Rattle.automata.proofs.Xor.{bool_cases}
@@ -16,13 +14,6 @@ use Rattle.rows.proofs.BitLaws.{bit_xor_lem, bit_high, bit_below, bits_lt}
 
 abbrev pub Top : ℕ → ℕ → Type 0
 Top q x = (2 ^ q ≤ x) × (x < 2 ^ (q + 1))
-
--- The leading zeros, the highest bit and the bits below it make the w + 1 bits of a word.
-pub top_leading : (w x : ℕ) → 0 < x → x < 2 ^ suc w → (count_leading_zeros (suc w) x ≤ w) × Top (w - count_leading_zeros (suc w) x) x
-top_leading w x p h =
-    let (j, e, lo, hi) = leading_top (suc w) x p h in
-    let r : w - count_leading_zeros (suc w) x ≡ j = omega arith in
-    (omega arith, rw (r, add-one) (lo, hi))
 
 -- Without bit q, all bits stand below it.
 top_off : (q x : ℕ) → x < 2 ^ (q + 1) → bit_of x q ≡ false → x < 2 ^ q

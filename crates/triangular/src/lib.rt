@@ -9,14 +9,16 @@ ghost use Rattle.triangular.specs.Triangular.{Triangular, Inserted};
 use rows::Row;
 
 // Where the highest bit of x stands.
+#[tactic(auto, unfolding(rows::specs::Row::mask))]
 fn highest(x: Row) -> usize
     requires { 0 < mask x }
     ensures { (result < width) × (2 ^ result ≤ mask x) × (mask x < 2 ^ (result + 1)) }
 {
-    63 - u64::leading_zeros(x.bits) as usize
+    u64::ilog2(x.bits) as usize
 }
 
 // The row at place q.
+#[tactic(auto, unfolding(rows::specs::Row::mask))]
 fn get(e: &[u64], q: usize) -> Row
     requires { q < length e.now }
     ensures { mask result ≡ get_or e.now q 0 }
@@ -25,6 +27,7 @@ fn get(e: &[u64], q: usize) -> Row
 }
 
 // Writes the row at place q.
+#[tactic(auto, unfolding(rows::specs::Row::mask))]
 fn put(e: &mut [u64], q: usize, x: Row)
     requires { q < length e.old }
     ensures { e.new ≡ set e.old q (mask x) }

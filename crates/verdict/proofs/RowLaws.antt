@@ -31,11 +31,13 @@ use Rattle.hunt.specs.Both.{beside_of, Paired}
 use Rattle.hunt.specs.Hunt.{shared}
 use Rattle.hunt.proofs.BothLaws.{field_below, paired_sizes, paired_rows, paired_initial, paired_bits}
 use Rattle.verdict.specs.Rows.{both_of, RowOf}
+use Rattle.verdict.specs.declared.Side.{Side}
+use Rattle.verdict.specs.Side.{side_of}
 use Rattle.verdict.specs.Judged.{Found}
 
 -- The first record's final column g against a row y.
-pub side_told : (bs : List ℕ) → WellFormed bs → (g y : ℕ) (r : Bool) → g ≡ number row_bytes bs final_at → ((n : ℕ) → g < 2 ^ n → r ≡ shared n g y) → r ≡ shared (states_of bs) (number row_bytes bs final_at) y
-side_told bs good g y r e h = h (states_of bs) (subst (λ x. x < 2 ^ states_of bs) (sym e) (field_below bs good).1) ∙ ap (λ x. shared (states_of bs) x y) e
+pub side_told : (bs : List ℕ) → WellFormed bs → (g y : ℕ) (s : Side) → g ≡ number row_bytes bs final_at → ((n : ℕ) → g < 2 ^ n → s ≡ side_of (shared n g y)) → s ≡ side_of (shared (states_of bs) (number row_bytes bs final_at) y)
+side_told bs good g y s e h = h (states_of bs) (subst (λ x. x < 2 ^ states_of bs) (sym e) (field_below bs good).1) ∙ ap (λ x. side_of (shared (states_of bs) x y)) e
 
 module _ (bs cs : List ℕ) (m : Machine) (P : Paired bs cs m) where
   abbrev A : Automaton
@@ -85,10 +87,10 @@ module _ (bs cs : List ℕ) (m : Machine) (P : Paired bs cs m) where
       own j g = R.bits j (omega arith) ∙ reach_low A B S.initial u j g ∙ reach_cong A S.initial A.initial (initial_low A B) u j g
 
   -- The empty word tells the two apart.
-  pub judged_empty : (w : List ℕ) (first : Bool) → first ≡ shared (states_of bs) (number row_bytes bs final_at) (mask m.initial) → shared m.states (mask m.initial) (mask m.finals) ≡ true → Found (letters_of bs) A B w 0 first
-  judged_empty w first e z = record {
+  pub judged_empty : (w : List ℕ) (s : Side) → s ≡ side_of (shared (states_of bs) (number row_bytes bs final_at) (mask m.initial)) → shared m.states (mask m.initial) (mask m.finals) ≡ true → Found (letters_of bs) A B w 0 s
+  judged_empty w s e z = record {
     word = some_difference (letters_of bs) A B [] (record { over = tt; differs = row_differs [] (mask m.initial) row_start ∙ z; first = λ u o h. absurd (none_before u h) });
-    side = e ∙ row_first [] (mask m.initial) row_start;
+    side = e ∙ ap side_of (row_first [] (mask m.initial) row_start);
     traced = record {
       small = omega arith;
       letters = subst (λ x. x ≤ blocks) P.letters (paired_sizes bs cs m P).2;

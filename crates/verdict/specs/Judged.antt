@@ -1,7 +1,7 @@
 -- What a comparison answers, with the trail w of the rows found.
 --   Judged, JudgedOf    the answer for two automata, and for two records
 --   Undecided           two records side by side whose machine is m; both accept the empty word, or neither; g is the first one's final column
-use Rattle.std.specs.Prelude.{◌≡◌, Bool, false, List, ℕ, length}
+use Rattle.std.specs.Prelude.{◌≡◌, false, List, ℕ, length, Option, None, Some}
 use Rattle.std.proofs.Math.Option.{none, some}
 use Rattle.automata.specs.Automaton.{Automaton, accepts}
 use Rattle.automata.specs.FirstDifference.{first_difference}
@@ -13,20 +13,21 @@ use Rattle.record.specs.Bytes.{number}
 use Rattle.record.specs.Record.{row_bytes, final_at, letters_of, automaton_of}
 use Rattle.hunt.specs.Both.{Paired}
 use Rattle.hunt.specs.Hunt.{shared}
-use Rattle.verdict.specs.declared.Verdict.{Verdict}
-use Rattle.verdict.specs.declared.Verdict.TheVariants.{Same, Differs}
+use Rattle.verdict.specs.declared.Apart.{Apart}
+use Rattle.verdict.specs.declared.Side.{Side}
+use Rattle.verdict.specs.Side.{side_of}
 
--- The first difference is the word of row r; `first` says whether the first automaton accepts it.
-pub record Found (a : ℕ) (A B : Automaton) (w : List ℕ) (r : ℕ) (first : Bool) : Type 0 where
+-- The first difference is the word of row r; the side s accepts it.
+pub record Found (a : ℕ) (A B : Automaton) (w : List ℕ) (r : ℕ) (s : Side) : Type 0 where
   pub word : first_difference a A B ≡ some (word_in w r)
-  pub side : first ≡ accepts A (word_in w r)
+  pub side : s ≡ side_of (accepts A (word_in w r))
   pub traced : Traced a r w
 
-abbrev pub Judged : ℕ → Automaton → Automaton → List ℕ → Verdict → Type 0
-Judged a A B w Same = first_difference a A B ≡ none
-Judged a A B w (Differs r first) = Found a A B w r first
+abbrev pub Judged : ℕ → Automaton → Automaton → List ℕ → Option Apart → Type 0
+Judged a A B w None = first_difference a A B ≡ none
+Judged a A B w (Some x) = Found a A B w x.row x.side
 
-abbrev pub JudgedOf : List ℕ → List ℕ → List ℕ → Verdict → Type 0
+abbrev pub JudgedOf : List ℕ → List ℕ → List ℕ → Option Apart → Type 0
 JudgedOf bs cs w r = Judged (letters_of bs) (automaton_of bs) (automaton_of cs) w r
 
 pub record Undecided (bs cs : List ℕ) (m : Machine) (g : Row) (w : List ℕ) : Type 0 where

@@ -1,11 +1,15 @@
 // Two well-formed records over the same letters side by side, and what a comparison of them finds.
 #![tactic(auto)]
 
+ghost use Rattle.std.specs.Prelude.{◌≡◌, ℕ, ◌^◌, ◌<◌};
+ghost use Rattle.rows.specs.Row.{mask};
 ghost use Rattle.record.specs.Claims.{Operands};
 ghost use Rattle.hunt.specs.Both.{Paired};
+ghost use Rattle.hunt.specs.Hunt.{shared};
+ghost use Rattle.verdict.specs.Side.{side_of};
 
 use record::{FINAL_AT, INITIAL_AT};
-use rows::Machine;
+use rows::{Machine, Row};
 
 // The sizes, the initial row and the final column of two records side by side.
 pub fn paired(first: &[u8], second: &[u8]) -> Machine
@@ -26,9 +30,32 @@ pub fn paired(first: &[u8], second: &[u8]) -> Machine
     }
 }
 
-// What a comparison finds: the same words, or the row whose word is the first that just one accepts, and whether the first does.
-#[derive(Clone, Copy)]
-pub enum Verdict {
-    Same,
-    Differs { row: usize, first: bool },
+// Which of two records accepts a word.
+#[derive(Clone, Copy, PartialEq, Eq)]
+pub enum Side {
+    First,
+    Second,
+}
+
+// Where two records come apart: the row whose word is the first that just one accepts, and the one that accepts it.
+#[derive(Clone, Copy, PartialEq, Eq)]
+pub struct Apart {
+    pub row: usize,
+    pub side: Side,
+}
+
+// They come apart at a row, which is y; g is the first record's final column, and tells whether the first accepts its word.
+pub fn parted(row: usize, g: Row, y: Row) -> Apart
+    ensures row { result.row ≡ row }
+    ensures side { (n : ℕ) → mask g < 2 ^ n → result.side ≡ side_of (shared n (mask g) (mask y)) }
+{
+    let side = if rows::parity(g, y) {
+        Side::First
+    } else {
+        Side::Second
+    };
+    Apart {
+        row: row,
+        side: side,
+    }
 }

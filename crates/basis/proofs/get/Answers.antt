@@ -1,10 +1,7 @@
 -- `get` reads the number that stands for the row.
-use mathlib.Core.Path.{refl}
 use Prim.Native.Nat.{◌+◌, ◌*◌, ◌<◌}
 use native.Mathlib.Omega.{arith}
 use lib.ListN.{length}
-use Rattle.rows.specs.Row.{mask}
-use Rattle.basis.specs.Basis.{cell}
 use Rattle.basis.proofs.BasisLaws.{inside}
 use Rattle.basis.proofs.get.Goals.{Start}
 use Rattle.basis.proofs.get.Goals as goal
@@ -24,7 +21,3 @@ offset_bounds-b-l c = record { fits = omega (arith, place c) }
 
 pub bounds-b-l : goal.bounds-b-l
 bounds-b-l c = place (goal.at.bounds-b-l c).Start
-
-pub returns : goal.returns
-unfolding mask cell
-returns c = refl

@@ -11,14 +11,14 @@ pub returns-then-number-gt-LAST : goal.returns-then-number-gt-LAST
 returns-then-number-gt-LAST c =
     let a = c.args in
     let room = length a.out.now in
-    let e = number_met a.number room c.if-number-gt-LAST.true in
+    let e = number_met a.number room (omega arith) in
     let p = promises a.number a.out.now a.out.now (Refused 13 0 a.number) (rw e) (rw e) in
     record { answer = p.0; buffer = p.1.0; claims = p.1.1 }
 
 pub write-requires : goal.write-requires
 write-requires c =
     let h = c.load-m.ensures in
-    let b = record_bounds _ c.if-number-gt-LAST.false in
+    let b = record_bounds c.args.number (omega arith) in
     (h.valid, omega (arith, h.states, b.states))
 
 pub returns : goal.returns
@@ -27,7 +27,7 @@ returns c =
     let l = c.load-m in
     let a = c.args in
     let room = length a.out.now in
-    let e = number_passes a.number room c.if-number-gt-LAST.false in
-    let same = encode_loaded a.number c.if-number-gt-LAST.false _ l.result l.ensures in
+    let e = number_passes a.number room (omega arith) in
+    let same = encode_loaded a.number (omega arith) _ l.result l.ensures in
     let p = promises a.number a.out.now w.new.buf w.result (rw e (w.ensures.answer ∙ rw same)) (rw e (w.ensures.buffer ∙ rw same)) in
     record { answer = p.0; buffer = p.1.0; claims = p.1.1 }

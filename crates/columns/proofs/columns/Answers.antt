@@ -8,14 +8,14 @@ pub clear-requires : goal.clear-requires
 clear-requires c =
     let l = c.lay-r in
     let a = c.args in
-    (laid_le a.n (mask a.p) l.result a.b.now l.new.c l.ensures, c.requires.0, l.ensures.size)
+    (omega arith, omega (arith, laid_le a.n (mask a.p) l.result a.b.now l.new.c l.ensures), c.requires.0)
 
 pub transpose-requires : goal.transpose-requires
 transpose-requires c =
     let d = c.clear in
     let l = c.lay-r in
     let a = c.args in
-    (omega arith, c.requires.0, laid_low a.n (mask a.p) l.result a.b.now l.new.c d.new.c l.ensures d.ensures.1 c.requires.3, d.ensures.0.size)
+    (omega arith, c.requires.0, laid_low a.n (mask a.p) l.result a.b.now l.new.c d.new.t l.ensures d.ensures.1 c.requires.1)
 
 pub returns : goal.returns
 returns c =
@@ -23,4 +23,4 @@ returns c =
     let d = c.clear in
     let l = c.lay-r in
     let a = c.args in
-    (l.ensures.count, laid_columns a.n (mask a.p) l.result a.b.now l.new.c d.new.c l.ensures d.ensures.1 t.new.t t.ensures, t.ensures.size)
+    (l.ensures.count, laid_columns a.n (mask a.p) l.result a.b.now l.new.c d.new.t l.ensures d.ensures.1 t.new.t t.ensures, t.ensures.size)

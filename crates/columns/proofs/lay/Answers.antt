@@ -12,28 +12,16 @@ use Rattle.columns.proofs.LayLaws.{laid_start, laid_le, laid_over, laid_pivot}
 use Rattle.columns.proofs.lay.Goals.{After-and-z, After-lowest-k, In-loop-z}
 use Rattle.columns.proofs.lay.Goals as goal
 
-pub below-requires : goal.below-requires
-below-requires c = c.requires.0
-
-pub and-z-requires : goal.and-z-requires
-and-z-requires c = tt
-
 pub loop-z-init : goal.loop-z-init
-loop-z-init c = λ p A. (0, omega arith, A, laid_start p c.args.b.now c.args.c.now c.requires.1)
+loop-z-init c = λ p A. (0, omega arith, A, laid_start p c.args.b.now c.args.c.now c.told-c)
 
 -- All pivots are ahead at first.
 ahead : (c : After-and-z) → Ahead (bit_of (mask c.args.p)) 0 c.args.n (mask c.and-z.result)
 ahead c = let a = c.args in let y = c.below in ahead_start (mask a.p) a.n (mask y.result) (mask c.and-z.result) y.ensures.0 y.ensures.1 c.and-z.ensures
 
-pub is_none-requires : goal.is_none-requires
-is_none-requires c = tt
-
 -- A bit is left.
 some : (c : In-loop-z) → 0 < mask c.loop-z.z
 some c = some_bit (mask c.loop-z.z) c.is_none.ensures c.loop-z-test.true
-
-pub lowest-k-requires : goal.lowest-k-requires
-lowest-k-requires c = some c
 
 -- The rows laid are those of the pivots below the lowest bit, whatever the pivots are.
 reached : (c : After-lowest-k) (p : ℕ) → Ahead (bit_of p) 0 c.args.n (mask c.and-z.result) → (c.lowest-k.result < c.args.n) × (bit_of p c.lowest-k.result ≡ true) × Laid c.lowest-k.result p c.args.b.now c.loop-z.r c.loop-z.c
@@ -56,17 +44,11 @@ few c =
     let x = reached c p (let a = c.args in let y = c.below in ahead_start (mask a.p) a.n (mask y.result) (mask c.and-z.result) y.ensures.0 y.ensures.1 c.and-z.ensures) in
     omega (arith, laid_le c.lowest-k.result p c.loop-z.r c.args.b.now c.loop-z.c x.2, x.0)
 
-pub get-x-requires : goal.get-x-requires
-get-x-requires c = omega (arith, c.lowest-k.ensures.0)
-
 pub store-requires : goal.store-requires
-store-requires c = omega (arith, few (goal.at.store-requires c).After-lowest-k, c.requires.0)
+store-requires c = omega (arith, few (goal.at.store-requires c).After-lowest-k)
 
 pub overflow_add-r : goal.overflow_add-r
-overflow_add-r c = omega (arith, few (goal.at.overflow_add-r c).After-lowest-k, c.requires.0)
-
-pub clear_lowest-z-requires : goal.clear_lowest-z-requires
-clear_lowest-z-requires c = some (goal.at.overflow_add-r c).In-loop-z
+overflow_add-r c = omega (arith, few (goal.at.overflow_add-r c).After-lowest-k)
 
 pub loop-z-smaller : goal.loop-z-smaller
 loop-z-smaller c = cleared_less (mask c.loop-z.z) (some (goal.at.loop-z-smaller c).In-loop-z) c.clear_lowest-z.ensures

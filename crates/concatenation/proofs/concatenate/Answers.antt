@@ -16,12 +16,6 @@ moved-start-requires c =
     let a = c.args in
     (c.requires.3, moved_fits a.g.states a.h.states (mask a.h.initial) c.requires.1.initial c.requires.4)
 
-pub open_rows-requires : goal.open_rows-requires
-open_rows-requires c = (c.requires.0.letters, c.requires.0.states, c.requires.0.rows, c.requires.0.size)
-
-pub join-requires : goal.join-requires
-join-requires c = (c.requires.0.letters, c.requires.3, c.requires.4, (second (goal.at.join-requires c).Start).rows, c.open_rows.ensures.size)
-
 pub moved-finals-requires : goal.moved-finals-requires
 moved-finals-requires c =
     let a = c.args in

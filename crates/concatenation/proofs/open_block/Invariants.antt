@@ -1,5 +1,4 @@
 -- `open_block`: the first k rows are opened, the others are as they were.
-use Prim.Native.Nat.{◌-◌, ◌≤◌}
 use Rattle.rows.specs.Row.{mask}
 use Rattle.rows.specs.Table.{at}
 use Rattle.direct_sum.specs.Filled.{Changed}
@@ -7,7 +6,4 @@ use Rattle.concatenation.specs.Opened.{opened_rows}
 use Rattle.concatenation.proofs.open_block.Given as goal
 
 abbrev pub invariant-loop-k : goal.invariant-loop-k
-invariant-loop-k l = (l.k ≤ l.n) × Changed l.l l.k (opened_rows l.n (mask l.f) (mask l.start) (at l.initial.t) l.l) l.initial.t l.t
-
-abbrev pub decreases-loop-k : goal.decreases-loop-k
-decreases-loop-k l = l.n - l.k
+invariant-loop-k l = Changed l.l l.k (opened_rows l.n (mask l.f) (mask l.start) (at l.initial.t) l.l) l.initial.t l.t

@@ -1,5 +1,4 @@
 -- `open_rows`: the rows of the letters below l are opened.
-use Prim.Native.Nat.{◌-◌, ◌≤◌}
 use Rattle.rows.specs.Row.{mask}
 use Rattle.rows.specs.Table.{at}
 use Rattle.direct_sum.specs.Filled.{ChangedUpTo}
@@ -7,7 +6,4 @@ use Rattle.concatenation.specs.Opened.{opened_rows}
 use Rattle.concatenation.proofs.open_rows.Given as goal
 
 abbrev pub invariant-loop-l : goal.invariant-loop-l
-invariant-loop-l l = (l.l ≤ l.a) × ChangedUpTo l.l l.n (opened_rows l.n (mask l.f) (mask l.start) (at l.initial.t)) l.initial.t l.t
-
-abbrev pub decreases-loop-l : goal.decreases-loop-l
-decreases-loop-l l = l.a - l.l
+invariant-loop-l l = ChangedUpTo l.l l.n (opened_rows l.n (mask l.f) (mask l.start) (at l.initial.t)) l.initial.t l.t

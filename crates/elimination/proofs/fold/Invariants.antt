@@ -1,11 +1,7 @@
 -- `fold`: the rows below j are done, those from j on are as they were.
-use Prim.Native.Nat.{◌-◌, ◌≤◌}
 use Rattle.rows.specs.Row.{mask}
 use Rattle.elimination.proofs.FoldLaws.{Folding}
 use Rattle.elimination.proofs.fold.Given as goal
 
 abbrev pub invariant-loop-j : goal.invariant-loop-j
-invariant-loop-j l = (l.j ≤ l.n) × Folding l.stride l.j l.l l.q (mask l.x) l.initial.b l.b
-
-abbrev pub decreases-loop-j : goal.decreases-loop-j
-decreases-loop-j l = l.n - l.j
+invariant-loop-j l = Folding l.stride l.j l.l l.q (mask l.x) l.initial.b l.b

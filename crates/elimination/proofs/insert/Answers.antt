@@ -2,8 +2,7 @@
 use mathlib.Core.Path.{refl, sym, ◌∙◌}
 use mathlib.Core.Logic.{inl, inr}
 use native.Mathlib.Nat.{lt_of_lt_of_le}
-use native.Mathlib.Omega.{arith}
-use borrow.Author.Tests.{eqb-true, eqb-false}
+use borrow.Author.Tests.{eqb-true}
 use lib.Pow.{pow_mono}
 use Rattle.automata.specs.Mask.{bit_of}
 use Rattle.rows.specs.Row.{mask}
@@ -22,12 +21,6 @@ returns-then-is_none c =
     let y = mask a.y in
     let x = c.left_of-left in
     λ C F. (C, onto n (bit_of p) C (bit_of y), inl (place_old a.stride n a.s.count p (mask a.s.used) y a.b.now C F c.requires.3 (mask x.result) x.ensures (onto n (bit_of p) C (bit_of y)) (λ i. refl) (eqb-true (mask x.result) 0 (sym c.is_none.ensures ∙ c.if-is_none.true))))
-
-pub extend-requires : goal.extend-requires
-extend-requires c =
-    let x = c.left_of-left in
-    let some = eqb-false (mask x.result) 0 (sym c.is_none.ensures ∙ c.if-is_none.false) in
-    (c.requires.0, c.requires.1, c.requires.2, c.requires.3, c.requires.4, c.requires.5, x.ensures, omega (arith, some))
 
 pub returns : goal.returns
 returns c = λ C F. let e = c.extend.ensures C F in (e.0, e.1, inr e.2)

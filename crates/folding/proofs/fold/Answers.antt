@@ -1,21 +1,20 @@
 -- `fold`: nothing changes where every state is a pivot; else every row is looked up among the columns.
-use mathlib.Core.Path.{refl, ap, ◌∙◌}
+use mathlib.Core.Path.{◌≡◌, refl, ap, ◌∙◌}
+use borrow.Author.Rules.{rules}
 use Rattle.automata.specs.Mask.{bit_of}
 use Rattle.rows.specs.Row.{width, mask}
-use Rattle.rows.proofs.BitLaws.{same_told}
 use Rattle.basis.specs.Basis.{cell}
 use Rattle.lookup.specs.Lookup.{chosen}
 use Rattle.folding.proofs.AutomatonLaws.{automaton_full, automaton_folded}
 use Rattle.folding.proofs.fold.Goals as goal
 
-pub returns-then-is_none : goal.returns-then-is_none
-returns-then-is_none c =
+pub returns-then-eq : goal.returns-then-eq
+returns-then-eq c =
     let a = c.args in
     let m = a.m in
     let y = c.below-all in
-    let x = c.xor in
-    let e = same_told (mask a.p) (mask y.result) x.ensures c.is_none.ensures c.if-is_none.true in
-    (refl, automaton_full m.letters a.t.now m.states (mask m.initial) (mask m.finals) c.requires.0 (mask a.p) a.b.now c.requires.2 (λ k h. ap (λ v. bit_of v k) e ∙ y.ensures.1 k h), c.requires.4)
+    let e : a.p ≡ y.result = search rules in
+    (refl, automaton_full m.letters a.t.now m.states (mask m.initial) (mask m.finals) c.requires.0 (mask a.p) a.b.now c.requires.1 (λ k h. ap (λ v. bit_of (mask v) k) e ∙ y.ensures.1 k h), c.told-c)
 
 pub returns : goal.returns
 returns c =
@@ -29,7 +28,7 @@ returns c =
     let M = chosen (mask o.result) (cell width w 0) in
     let T = f.ensures.2 in (
       refl,
-      automaton_folded m.letters a.t.now m.states (mask m.initial) (mask m.finals) c.requires.0 (mask a.p) a.b.now c.requires.2 k.result k.ensures.0 w k.ensures.1
+      automaton_folded m.letters a.t.now m.states (mask m.initial) (mask m.finals) c.requires.0 (mask a.p) a.b.now c.requires.1 k.result k.ensures.0 w k.ensures.1
           (mask o.result) o.ensures.0 o.ensures.1 f.result tab f.ensures.1 T c.fold_table.new.t c.fold_table.ensures
           (mask c.times-i.result) (mask c.and.result) (mask c.times-f.result) (c.times-i.ensures M T) c.and.ensures (c.times-f.ensures M T),
       k.ensures.2,

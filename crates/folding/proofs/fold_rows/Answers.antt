@@ -14,28 +14,16 @@ use Rattle.folding.proofs.RowLaws.{folded_start, folded_over, folded_pivot}
 use Rattle.folding.proofs.fold_rows.Goals.{After-and-z, After-lowest-k, In-loop-z}
 use Rattle.folding.proofs.fold_rows.Goals as goal
 
-pub below-requires : goal.below-requires
-below-requires c = c.requires.1
-
-pub and-z-requires : goal.and-z-requires
-and-z-requires c = tt
-
 pub loop-z-init : goal.loop-z-init
-loop-z-init c = let a = c.args in λ p A. (0, omega arith, A, rank_start (bit_of p), folded_start a.l p a.g a.tab.now a.t.now c.requires.3)
+loop-z-init c = let a = c.args in λ p A. (0, omega arith, A, rank_start (bit_of p), folded_start a.l p a.g a.tab.now a.t.now c.told-t)
 
 -- All pivots are ahead at first.
 ahead : (c : After-and-z) → Ahead (bit_of (mask c.args.p)) 0 c.args.n (mask c.and-z.result)
 ahead c = let a = c.args in let y = c.below in ahead_start (mask a.p) a.n (mask y.result) (mask c.and-z.result) y.ensures.0 y.ensures.1 c.and-z.ensures
 
-pub is_none-requires : goal.is_none-requires
-is_none-requires c = tt
-
 -- A bit is left.
 some : (c : In-loop-z) → 0 < mask c.loop-z.z
 some c = some_bit (mask c.loop-z.z) c.is_none.ensures c.loop-z-test.true
-
-pub lowest-k-requires : goal.lowest-k-requires
-lowest-k-requires c = some c
 
 -- The rows folded are those of the pivots below the lowest bit, whatever the pivots are.
 reached : (c : After-lowest-k) (p : ℕ) → Ahead (bit_of p) 0 c.args.n (mask c.and-z.result)
@@ -57,24 +45,17 @@ reached c p A =
 -- There are no more rows than states passed.
 few : (c : After-lowest-k) → c.loop-z.j < c.args.n
 few c =
-    let p = mask c.args.p in
-    let x = reached c p (ahead (goal.at.load-x-requires c).After-and-z) in
+    let a = c.args in
+    let y = c.below in
+    let p = mask a.p in
+    let x = reached c p (ahead_start p a.n (mask y.result) (mask c.and-z.result) y.ensures.0 y.ensures.1 c.and-z.ensures) in
     omega (arith, rank_le (bit_of p) c.lowest-k.result, x.0, x.2)
-
-pub load-x-requires : goal.load-x-requires
-load-x-requires c = (c.requires.0, c.lowest-k.ensures.0)
-
-pub times-y-requires : goal.times-y-requires
-times-y-requires c = c.requires.2
 
 pub store-requires : goal.store-requires
 store-requires c = (c.requires.0, omega (arith, few (goal.at.store-requires c).After-lowest-k, c.requires.1))
 
 pub overflow_add-j : goal.overflow_add-j
 overflow_add-j c = omega (arith, few (goal.at.overflow_add-j c).After-lowest-k, c.requires.1)
-
-pub clear_lowest-z-requires : goal.clear_lowest-z-requires
-clear_lowest-z-requires c = some (goal.at.overflow_add-j c).In-loop-z
 
 pub loop-z-smaller : goal.loop-z-smaller
 loop-z-smaller c = cleared_less (mask c.loop-z.z) (some (goal.at.loop-z-smaller c).In-loop-z) c.clear_lowest-z.ensures

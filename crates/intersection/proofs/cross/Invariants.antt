@@ -1,11 +1,8 @@
 -- `cross`: the blocks below l are filled.
-use Prim.Native.Nat.{◌-◌, ◌*◌, ◌≤◌}
+use Prim.Native.Nat.{◌*◌}
 use Rattle.direct_sum.specs.Filled.{Filled}
 use Rattle.intersection.specs.Kron.{crossed}
 use Rattle.intersection.proofs.cross.Given as goal
 
 abbrev pub invariant-loop-l : goal.invariant-loop-l
-invariant-loop-l l = (l.l ≤ l.a) × Filled l.l (l.n * l.m) (crossed l.t l.u l.n l.m) l.out
-
-abbrev pub decreases-loop-l : goal.decreases-loop-l
-decreases-loop-l l = l.a - l.l
+invariant-loop-l l = Filled l.l (l.n * l.m) (crossed l.t l.u l.n l.m) l.out

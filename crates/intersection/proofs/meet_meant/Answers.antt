@@ -68,7 +68,6 @@ product-m-requires c =
       subst (λ a. Bounded a h.new.out h.result.states (mask h.result.initial) (mask h.result.finals)) (sym h.ensures.0) h.ensures.1.bounded,
       h.ensures.0 ∙ sym (passed (goal.at.product-m-requires c).In-Both).2 ∙ sym g.ensures.0,
       omega arith,
-      refl,
     )
 
 pub finish-requires : goal.finish-requires

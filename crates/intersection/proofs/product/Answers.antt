@@ -1,6 +1,5 @@
 -- `product`: the rows, the initial row and the final column are Kronecker products.
 use mathlib.Core.Path.{refl, subst}
-use native.Mathlib.Omega.{arith}
 use Rattle.rows.specs.Row.{mask}
 use Rattle.rows.specs.Machine.{Bounded}
 use Rattle.intersection.proofs.KronLaws.{meet_built}
@@ -11,20 +10,8 @@ use Rattle.intersection.proofs.product.Goals as goal
 second : (s : Start) → Bounded s.args.g.letters s.args.u.now s.args.h.states (mask s.args.h.initial) (mask s.args.h.finals)
 second s = subst (λ a. Bounded a s.args.u.now s.args.h.states (mask s.args.h.initial) (mask s.args.h.finals)) s.requires.2 s.requires.1
 
-pub cross-requires : goal.cross-requires
-cross-requires c = (c.requires.0.letters, c.requires.0.states, c.requires.3, (second (goal.at.cross-requires c).Start).rows, c.requires.4)
-
-pub kron-initial-requires : goal.kron-initial-requires
-kron-initial-requires c = (c.requires.0.states, c.requires.3, c.requires.1.initial)
-
-pub kron-finals-requires : goal.kron-finals-requires
-kron-finals-requires c = (c.requires.0.states, c.requires.3, c.requires.1.finals)
-
-pub overflow_mul-result : goal.overflow_mul-result
-overflow_mul-result c = omega arith
-
 pub returns : goal.returns
 returns c =
     let a = c.args in
     let x = c.cross in
-    meet_built a.t.now a.u.now x.new.out a.g a.h c.requires.0 (second (goal.at.overflow_mul-result c).Start) x.ensures c.requires.3 _ refl refl c.kron-initial.ensures c.kron-finals.ensures
+    meet_built a.t.now a.u.now x.new.out a.g a.h c.requires.0 (second (goal.at.returns c).Start) x.ensures c.requires.3 _ refl refl c.kron-initial.ensures c.kron-finals.ensures

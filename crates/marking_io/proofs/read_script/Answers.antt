@@ -11,14 +11,14 @@ pub loop-n-preserved : goal.loop-n-preserved
 loop-n-preserved g c =
     let l = c.loop-n in
     let b = l.buffer in
-    let moved = c.in-Moved.ensures in
+    let moved = c.in_ok-count.ensures in
     let back = c.read_some.new.rest in
     let same = c.read_some.auto.rest in
     let room = mid_len l.n (length b) b (omega arith) in
     let kept = same_len_mid l.n (length b - l.n) b back same in
     record {
       within = omega (arith, kept, moved.within, room);
-      bytes = read_behind l.n c.in-Moved.count b back l.invariant.within (omega (arith, moved.within, same)) _ _ _ l.invariant.bytes moved.bytes.0;
+      bytes = read_behind l.n c.in_ok-count.count b back l.invariant.within (omega (arith, moved.within, same)) _ _ _ l.invariant.bytes moved.bytes.0;
     }
 
 pub returns-then-count-eq0-clause-script : goal.returns-then-count-eq0-clause-script
@@ -26,8 +26,8 @@ returns-then-count-eq0-clause-script g c =
     let l = c.loop-n in
     let n = l.n in
     let b = l.buffer in
-    let k = c.in-Moved.count in
-    let moved = c.in-Moved.ensures in
+    let k = c.in_ok-count.count in
+    let moved = c.in_ok-count.ensures in
     let back = c.read_some.new.rest in
     let same = c.read_some.auto.rest in
     let room = mid_len n (length b) b (omega arith) in

@@ -8,7 +8,7 @@ use Rattle.minimisation.proofs.minimise.Goals as goal
 
 pub transposed-requires : goal.transposed-requires
 transposed-requires c =
-    (c.requires.0.letters, c.requires.0.states, c.requires.0.rows, c.requires.2)
+    (c.requires.0.letters, c.requires.0.states, c.requires.0.rows)
 
 pub explore-s-requires : goal.explore-s-requires
 explore-s-requires c =
@@ -23,7 +23,7 @@ fold-g-requires c =
     let x = c.explore-s in
     let r = x.result in
     let X = x.ensures in
-    (c.requires.0, X.found.base, X.found.basis.unit, explored_low m.letters u.new.c m.states (mask m.finals) (mask m.initial) x.new.b r.count (mask r.pivots) (mask r.used) X, u.ensures.size)
+    (c.requires.0, X.found.basis.unit, explored_low m.letters u.new.c m.states (mask m.finals) (mask m.initial) x.new.b r.count (mask r.pivots) (mask r.used) X)
 
 pub reduce-requires : goal.reduce-requires
 reduce-requires c =

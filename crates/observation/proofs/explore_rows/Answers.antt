@@ -1,14 +1,10 @@
 -- `explore_rows`: the rows in `done` are tried, and there is one more of them each time.
-use mathlib.Core.Path.{sym, ap, ◌∙◌}
-use mathlib.Core.Bool.{true≢false}
 use mathlib.Core.Logic.{inl, inr}
 use Prim.Native.Nat.{◌≤◌}
 use native.Mathlib.Nat.{lt_of_lt_of_le}
 use native.Mathlib.Omega.{arith}
 use lib.Pow.{pow_mono}
-use Rattle.automata.specs.Mask.{bit_of}
 use Rattle.rows.specs.Row.{width, mask}
-use Rattle.rows.proofs.BitLaws.{bit_none}
 use Rattle.rows.proofs.LoopLaws.{some_bit, no_bit}
 use Rattle.reduction.proofs.TableSearch.{count_bound}
 use Rattle.observation.proofs.Order.{Left, left, none_left, tried_rises}
@@ -16,18 +12,12 @@ use Rattle.observation.proofs.ExploreLaws.{all_tried, found_bound}
 use Rattle.observation.proofs.explore_rows.Goals.{After-xor-todo, At-loop-r}
 use Rattle.observation.proofs.explore_rows.Goals as goal
 
-pub loop-r-init : goal.loop-r-init
-loop-r-init c = (c.requires.1, λ k t. absurd (true≢false (sym t ∙ ap (λ x. bit_of x k) c.none-done.ensures ∙ bit_none k)))
-
 -- There are at most as many rows as a row has bits.
 few : (c : At-loop-r) → c.loop-r.r.count ≤ width
 few c =
     let a = c.args in
     let v = c.loop-r in
     found_bound a.m.letters a.t.now a.m.states (mask a.m.initial) (mask a.m.finals) c.requires.0 v.b v.r.count (mask v.r.pivots) (mask v.r.used) v.invariant.0
-
-pub below-requires : goal.below-requires
-below-requires c = few (goal.at.below-requires c).At-loop-r
 
 -- Which rows are left.
 those : (c : After-xor-todo) → Left c.loop-r.r.count (mask c.loop-r.done) (mask c.xor-todo.result)
@@ -45,13 +35,6 @@ returns-then-is_none c =
 pub next-k-requires : goal.next-k-requires
 next-k-requires c =
     (some_bit (mask c.xor-todo.result) c.is_none.ensures c.if-is_none.false, (those (goal.at.next-k-requires c).After-xor-todo).left_low, few (goal.at.next-k-requires c).At-loop-r)
-
-pub explore_row-r-requires : goal.explore_row-r-requires
-explore_row-r-requires c =
-    (c.requires.0, c.loop-r.invariant.0, c.next-k.ensures.0)
-
-pub unit-requires : goal.unit-requires
-unit-requires c = omega (arith, c.next-k.ensures.0, few (goal.at.unit-requires c).At-loop-r)
 
 pub loop-r-smaller : goal.loop-r-smaller
 loop-r-smaller c =

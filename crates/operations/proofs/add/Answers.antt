@@ -12,9 +12,6 @@ use Rattle.operations.proofs.add.Goals as goal
 second : (s : Start) → Bounded s.args.g.letters s.args.u.now s.args.h.states (mask s.args.h.initial) (mask s.args.h.finals)
 second s = subst (λ a. Bounded a s.args.u.now s.args.h.states (mask s.args.h.initial) (mask s.args.h.finals)) s.requires.2 s.requires.1
 
-pub join-requires : goal.join-requires
-join-requires c = (c.requires.0.letters, c.requires.3, c.requires.4, (second (goal.at.join-requires c).Start).rows, c.requires.0.size)
-
 pub moved-i-requires : goal.moved-i-requires
 moved-i-requires c =
     let a = c.args in

@@ -1,36 +1,34 @@
--- `combine`: both records as they are meant.
-use mathlib.Core.Path.{◌≡◌, sym, ap, subst, ◌∙◌}
-use mathlib.Core.List.{List}
-use Prim.Native.Nat.{ℕ}
-use native.Mathlib.Omega.{arith}
-use lib.ListN.{length}
+-- `combine`: the answer and the buffer by the checks and by the result, for the record that the second one stands for; the claims follow.
+use mathlib.Core.Path.{refl, sym}
 use Rattle.record.specs.Record.{letters_of}
-use Rattle.record.specs.Outcome.{answer_in, buffer_in}
-use Rattle.record.specs.declared.Written.{Written}
-use Rattle.operands.proofs.MeantLaws.{blank_length, meant_blank, meant_itself}
-use Rattle.operations.specs.Operations.{binary_outcome, Combines}
-use Rattle.operations.specs.declared.Binary.{Binary}
-use borrow.Author.Rules.{rules}
+use Rattle.record.proofs.Refusals.{returned}
+use Rattle.operands.specs.Meant.{meant_over}
+use Rattle.operands.proofs.PairLaws.{both_passed, pair_refused}
+use Rattle.operations.proofs.OperationLaws.{binary_service}
 use Rattle.operations.proofs.combine.Goals as goal
 
--- What is promised of two records that stand for themselves.
-abbrev Promises : Binary → List ℕ → List ℕ → List ℕ → Written → List ℕ → Type 0
-Promises k bs buf exit r cs = (r ≡ answer_in (binary_outcome k bs cs) buf) × ((exit ≡ buffer_in (binary_outcome k bs cs) buf) × Combines k bs cs exit r)
-
-pub slice_bounds-combine_meant-end : goal.slice_bounds-combine_meant-end
-slice_bounds-combine_meant-end c = let l = sym (ap length c.blank.ensures ∙ blank_length _) in search rules
-
-pub returns-then-second-eq0 : goal.returns-then-second-eq0
-returns-then-second-eq0 c =
+pub returns-in_err-check_pair : goal.returns-in_err-check_pair
+returns-in_err-check_pair g c =
     let a = c.args in
-    let b = c.blank in
-    let m = c.combine_meant in
-    let p = subst (Promises a.k a.first.now a.out.now m.new.out m.result) (meant_blank (letters_of a.first.now) b.new.out a.second.now (omega (arith, c.if-second-eq0.true)) b.ensures) (m.ensures.answer, (m.ensures.buffer, m.ensures.claims)) in
+    let o = g.O.Binary in
+    let bs = a.first.now in
+    let cs = meant_over (letters_of bs) a.second.now in
+    let e = rw c.meant-right.ensures at c.in_err-check_pair.ensures in
+    let p = (binary_service o.words o.make g.met.O.Binary.accepted bs cs a.out.now).0 _ c.from_residual.result (pair_refused bs cs _ e) (returned c.from_residual.result c.from_residual.ensures.1) in
     record { answer = p.0; buffer = p.1.0; claims = p.1.1 }
 
+pub join_records-m-requires : goal.join_records-m-requires
+join_records-m-requires g c = (both_passed _ _ (sym c.in_ok-check_pair.ensures), refl, refl)
+
 pub returns : goal.returns
-returns c =
+returns g c =
     let a = c.args in
-    let m = c.combine_meant-2 in
-    let p = subst (Promises a.k a.first.now a.out.now m.new.out m.result) (meant_itself (letters_of a.first.now) a.second.now (λ none. omega (arith, c.if-second-eq0.false))) (m.ensures.answer, (m.ensures.buffer, m.ensures.claims)) in
+    let o = g.O.Binary in
+    let bs = a.first.now in
+    let cs = meant_over (letters_of bs) a.second.now in
+    let f = c.finish in
+    let m = c.join_records-m in
+    let passed = both_passed bs cs (sym (rw c.meant-right.ensures at c.in_ok-check_pair.ensures)) in
+    let built = rw c.meant-right.ensures at m.ensures.0 in
+    let p = (binary_service o.words o.make g.met.O.Binary.accepted bs cs a.out.now).1 m.new.s m.result f.new.out f.result passed built f.ensures.answer f.ensures.buffer in
     record { answer = p.0; buffer = p.1.0; claims = p.1.1 }

@@ -6,20 +6,17 @@ use Rattle.operations.proofs.BuiltLaws.{join_held}
 use Rattle.operations.proofs.join_records.Goals as goal
 
 pub join-requires : goal.join-requires
-join-requires c =
-    let g = c.read-g.ensures in
-    let h = c.read-h.ensures in
+join-requires g c =
+    let x = c.read-g.ensures in
+    let y = c.read-h.ensures in
     let f = (good_check _ c.requires.0.0).front in
-    let k = (good_check _ c.requires.0.1).front in (
-      g.valid,
-      h.valid,
-      h.letters ∙ sym c.requires.0.2 ∙ sym g.letters,
-      omega (arith, g.states, f.states),
-      omega (arith, g.states, f.states, h.states, k.states),
-    )
+    let k = (good_check _ c.requires.0.1).front in
+    (x.valid, y.valid, y.letters ∙ sym c.requires.0.2 ∙ sym x.letters, omega arith, omega arith)
 
 pub returns : goal.returns
-returns c =
-    let g = c.read-g in
-    let h = c.read-h in
-    (join_held c.args.k c.args.first.now c.args.second.now g.new.t h.new.t c.join.new.t g.result h.result c.join.result c.requires.0.2 g.ensures h.ensures c.join.ensures, h.ensures.valid.size)
+returns g c =
+    let x = c.read-g in
+    let y = c.read-h in (
+      join_held _ g.met.O.Binary.same _ _ x.new.t y.new.t c.join.new.t x.result y.result c.join.result c.requires.0.2 x.ensures y.ensures c.join.ensures,
+      y.ensures.valid.size,
+    )

@@ -1,18 +1,9 @@
 -- `look_up`: the table tells the rows that make the product, and they go to the table of the products.
-use native.Mathlib.Omega.{arith}
 use Rattle.rows.specs.Row.{width, mask}
-use Rattle.basis.specs.Basis.{cell, bits}
+use Rattle.basis.specs.Basis.{cell}
 use Rattle.lookup.specs.Lookup.{chosen}
-use Rattle.reduction.proofs.TableSearch.{count_bound, searching_full}
+use Rattle.reduction.proofs.TableSearch.{searching_full}
 use Rattle.reduction.proofs.look_up.Goals as goal
-
-pub times-c-requires : goal.times-c-requires
-times-c-requires c = c.requires.5.few
-
-pub store-requires : goal.store-requires
-store-requires c =
-    let a = c.args in
-    (omega (arith, c.requires.0.letters, c.requires.3), omega (arith, count_bound width a.m.states a.s.count (mask a.s.pivots) (bits width a.b.now 2) a.b.now c.requires.1.search.basis, c.requires.0.states, c.requires.2))
 
 pub returns : goal.returns
 returns c =

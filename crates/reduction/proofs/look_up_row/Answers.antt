@@ -1,12 +1,12 @@
 -- `look_up_row`: the letters below l are done.
-use mathlib.Core.Path.{◌≡◌, refl, ◌∙◌}
+use mathlib.Core.Path.{◌≡◌, ◌∙◌}
 use Prim.Native.Nat.{◌<◌}
 use native.Mathlib.Omega.{arith}
 use Rattle.rows.specs.Row.{width, mask}
 use Rattle.rows.specs.Table.{at}
 use Rattle.basis.specs.Basis.{cell, bits}
 use Rattle.kernels.specs.Products.{Products}
-use Rattle.reduction.proofs.TableSearch.{count_bound, found_low, searching_next}
+use Rattle.reduction.proofs.TableSearch.{found_low, searching_next}
 use Rattle.reduction.proofs.look_up_row.Goals.{After-multiply}
 use Rattle.reduction.proofs.look_up_row.Goals as goal
 
@@ -17,31 +17,11 @@ made c =
     let n = a.m.states in
     c.multiply.ensures n (found_low width n a.s.count (mask a.s.pivots) (bits width a.b.now 2) a.b.now c.requires.1.search.basis a.k c.requires.2)
 
-pub multiply-requires : goal.multiply-requires
-multiply-requires c =
-    let a = c.args in
-    (c.requires.0.letters, c.requires.1.base, omega (arith, count_bound width a.m.states a.s.count (mask a.s.pivots) (bits width a.b.now 2) a.b.now c.requires.1.search.basis, c.requires.0.states, c.requires.2), refl)
-
-pub loop-l-init : goal.loop-l-init
-loop-l-init c = (omega arith, c.requires.1)
-
-pub pick-z-requires : goal.pick-z-requires
-pick-z-requires c = omega (arith, c.loop-l-test.true, c.requires.0.letters)
-
 pub look_up-requires : goal.look_up-requires
 look_up-requires c =
     let v = c.loop-l in
-    let h : v.l < c.args.m.letters = omega (arith, c.loop-l-test.true) in
-    (c.requires.0, v.invariant.1, c.requires.2, h, c.requires.3, c.requires.4, c.pick-z.ensures ∙ made (goal.at.look_up-requires c).After-multiply v.l h)
-
-pub overflow_add-l : goal.overflow_add-l
-overflow_add-l c = omega (arith, c.loop-l-test.true, c.requires.0.letters)
-
-pub loop-l-smaller : goal.loop-l-smaller
-loop-l-smaller c = omega (arith, c.loop-l-test.true)
-
-pub loop-l-preserved : goal.loop-l-preserved
-loop-l-preserved c = (omega (arith, c.loop-l-test.true), c.look_up.ensures)
+    let h : v.l < c.args.m.letters = c.loop-l-test.true in
+    (c.requires.0, v.invariant, c.requires.2, h, c.requires.3, c.requires.4, c.pick-z.ensures ∙ made (goal.at.look_up-requires c).After-multiply v.l h)
 
 pub returns : goal.returns
 returns c =
@@ -49,4 +29,4 @@ returns c =
     let a = c.args in
     let m = a.m in
     let e : v.l ≡ m.letters = omega arith in
-    searching_next m.letters a.t.now m.states (mask m.initial) (mask m.finals) a.b.now v.out a.s.count a.k (mask a.s.pivots) (mask a.s.used) (rw e at v.invariant.1)
+    searching_next m.letters a.t.now m.states (mask m.initial) (mask m.finals) a.b.now v.out a.s.count a.k (mask a.s.pivots) (mask a.s.used) (rw e at v.invariant)

@@ -1,11 +1,7 @@
 -- `look_up_rows`: the rows below k are done; the basis stays, so that the table is one of its coefficients.
-use Prim.Native.Nat.{◌-◌, ◌≤◌}
 use Rattle.rows.specs.Row.{mask}
 use Rattle.reduction.specs.Tables.{Searching}
 use Rattle.reduction.proofs.look_up_rows.Given as goal
 
 abbrev pub invariant-loop-k : goal.invariant-loop-k
-invariant-loop-k l = (l.k ≤ l.s.count) × Searching l.m.letters l.t l.m.states (mask l.m.initial) (mask l.m.finals) l.b l.out l.s.count l.k 0 (mask l.s.pivots) (mask l.s.used)
-
-abbrev pub decreases-loop-k : goal.decreases-loop-k
-decreases-loop-k l = l.s.count - l.k
+invariant-loop-k l = Searching l.m.letters l.t l.m.states (mask l.m.initial) (mask l.m.finals) l.b l.out l.s.count l.k 0 (mask l.s.pivots) (mask l.s.used)

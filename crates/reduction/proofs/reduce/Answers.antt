@@ -1,22 +1,17 @@
 -- `reduce`: the initial row is placed first, the search does every pair, and the column tells the final states.
-use mathlib.Core.Path.{refl, sym, subst}
+use mathlib.Core.Path.{refl}
 use native.Mathlib.Omega.{arith}
 use Rattle.automata.specs.Mask.{bit_of}
 use Rattle.rows.specs.Row.{width, mask}
 use Rattle.basis.specs.Basis.{bits}
-use Rattle.elimination.specs.Place.{BasisIn, Placed}
-use Rattle.reduction.proofs.TableSearch.{count_bound, found_low, empty_basis, empty_cover, searching_start, start_row, searched_counts, searched_end}
+use Rattle.elimination.specs.Place.{Placed}
+use Rattle.reduction.proofs.TableSearch.{count_bound, found_low, searching_start, start_row, searched_counts, searched_end}
 use Rattle.reduction.proofs.reduce.Goals.{After-place-q}
 use Rattle.reduction.proofs.reduce.Goals as goal
 
 -- The basis was empty before the initial row.
 placed : (c : After-place-q) → Placed width c.args.m.states 0 0 0 (mask c.args.m.initial) (bits width c.args.b.now 2) (bits width c.place-q.new.b 2) (bit_of (mask c.place-q.result.row)) c.args.b.now c.place-q.new.b c.place-q.result.size.count (mask c.place-q.result.size.pivots) (mask c.place-q.result.size.used)
-placed c = rw c.none-none.ensures at c.place-q.ensures
-
-pub place-q-requires : goal.place-q-requires
-place-q-requires c =
-    let a = c.args in
-    (c.requires.0.states, c.requires.0.states, omega (arith, c.requires.1), c.requires.0.initial, subst (λ p. BasisIn width a.m.states 0 p (bits width a.b.now 2) a.b.now) (sym c.none-none.ensures) (empty_basis width a.m.states (bits width a.b.now 2) a.b.now), empty_cover width (mask c.none-none.result) a.b.now)
+placed c = let e = c.empty.ensures in rw (e.0, e.1, e.2) at c.place-q.ensures
 
 pub search-s-requires : goal.search-s-requires
 search-s-requires c =

@@ -2,6 +2,7 @@
 use mathlib.Core.Path.{sym, ap, subst, ◌∙◌}
 use native.Mathlib.Omega.{arith}
 use lib.ListN.{length}
+use Rattle.std.specs.Prelude.{Err}
 use Rattle.rows.specs.Row.{mask}
 use Rattle.rows.specs.Machine.{automaton_in, Bounded}
 use Rattle.record.specs.Outcome.{answer_of, buffer_of}
@@ -13,7 +14,7 @@ returns-then-d-gt-MAX_STATES c =
     let a = c.args in
     let f = c.minimise-g in
     let o = result_over a.m.letters (automaton_in a.t.now a.m) (length a.out.now) f.result f.ensures.1.0 (omega arith) in
-    record { answer = ap answer_of (sym o); buffer = ap (λ x. buffer_of x a.out.now) (sym o) }
+    record { answer = ap Err c.of.ensures ∙ ap answer_of (sym o); buffer = ap (λ x. buffer_of x a.out.now) (sym o) }
 
 pub write-requires : goal.write-requires
 write-requires c =

@@ -12,9 +12,6 @@ use Rattle.rows.proofs.below.Goals as goal
 shifted : (c : goal.Then-n-lt64) → (1 * 2 ^ c.args.n) % 18446744073709551616 ≡ 2 ^ c.args.n
 shifted c = unit_mask 64 c.args.n (omega (arith, c.if-n-lt64.true))
 
-pub overflow_sub-result : goal.overflow_sub-result
-overflow_sub-result c = omega (arith, shifted c, pow_pos c.args.n)
-
 pub returns-then-n-lt64 : goal.returns-then-n-lt64
 unfolding mask
 returns-then-n-lt64 c = let n = c.args.n in rw (shifted c) (omega (arith, pow_pos n), (ones n).set)

@@ -1,5 +1,4 @@
 -- `pass_rows`: the rows from k to j are done for every trail.
-use mathlib.Core.Path.{refl}
 use mathlib.Core.List.{List}
 use Prim.Native.Nat.{ℕ}
 use native.Mathlib.Omega.{arith}
@@ -17,13 +16,7 @@ use Rattle.search.proofs.pass_rows.Goals as goal
 
 -- Where row j is next; the search is there for some trail.
 next : (c : At-loop-j) → (w : List ℕ) × HuntingIn c.args.stride c.args.first.now c.args.second.now c.args.m c.args.b.now w c.args.s c.loop-j.j 0
-next c = (c.requires.1.0, c.loop-j.invariant.2 c.requires.1.0 c.requires.1.1)
-
-pub fill-g-requires : goal.fill-g-requires
-fill-g-requires c = (c.requires.1.1.base, c.requires.3, omega arith, refl)
-
-pub loop-j-init : goal.loop-j-init
-loop-j-init c = (omega arith, c.requires.2, λ w H. H)
+next c = (c.requires.1.0, c.loop-j.invariant c.requires.1.0 c.requires.1.1)
 
 pub get-x-requires : goal.get-x-requires
 get-x-requires c =
@@ -38,15 +31,6 @@ are_kept-requires c =
     let N = next (goal.at.are_kept-requires c).At-loop-j in
     (c.requires.0, found_below a.stride a.m.letters (beside_of a.first.now a.second.now) a.m.states (mask a.m.initial) (mask a.m.finals) a.b.now N.0 a.s.count v.j 0 (mask a.s.pivots) (mask a.s.used) (mask c.get-x.result) N.1 c.loop-j-test.true c.get-x.ensures, c.fill-g.ensures.0)
 
-pub returns-then-not-are_kept : goal.returns-then-not-are_kept
-returns-then-not-are_kept c = let v = c.loop-j in (v.invariant.2, v.invariant.0, v.invariant.1)
-
-pub overflow_add-j : goal.overflow_add-j
-overflow_add-j c = omega (arith, c.loop-j-test.true)
-
-pub loop-j-smaller : goal.loop-j-smaller
-loop-j-smaller c = omega (arith, c.loop-j-test.true)
-
 pub loop-j-preserved : goal.loop-j-preserved
 loop-j-preserved c =
     let a = c.args in
@@ -57,7 +41,4 @@ loop-j-preserved c =
     let t = c.fill-g.ensures in
     let x = c.get-x in
     let h = c.loop-j-test.true in
-    (omega arith, omega (arith, h), λ w H. row_kept a.stride m.letters (beside_of bs cs) m.states (mask m.initial) (mask m.finals) (paired_rows bs cs m c.requires.0) a.b.now w a.s.count (mask a.s.pivots) (mask a.s.used) c.fill-g.result t.1 v.j (mask x.result) h x.ensures (c.are_kept.ensures c.if-not-are_kept.false (chosen (mask a.s.pivots) (cell a.stride a.b.now 0)) t.2) (v.invariant.2 w H))
-
-pub returns : goal.returns
-returns c = let v = c.loop-j in (v.invariant.2, v.invariant.0, v.invariant.1)
+    λ w H. row_kept a.stride m.letters (beside_of bs cs) m.states (mask m.initial) (mask m.finals) (paired_rows bs cs m c.requires.0) a.b.now w a.s.count (mask a.s.pivots) (mask a.s.used) c.fill-g.result t.1 v.j (mask x.result) h x.ensures (c.are_kept.ensures c.if-not-are_kept.false (chosen (mask a.s.pivots) (cell a.stride a.b.now 0)) t.2) (v.invariant w H)

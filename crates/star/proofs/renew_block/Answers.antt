@@ -7,29 +7,8 @@ use Rattle.automata.specs.Mask.{bit_of}
 use Rattle.rows.specs.Row.{mask}
 use Rattle.rows.specs.Table.{at}
 use Rattle.rows.proofs.BesideLaws.{if_low, if_high}
-use Rattle.direct_sum.proofs.Changing.{changed_start, changed_step}
-use Rattle.star.specs.Renewed.{renewed}
+use Rattle.direct_sum.proofs.Changing.{changed_step}
 use Rattle.star.proofs.renew_block.Goals as goal
-
-pub loop-k-init : goal.loop-k-init
-loop-k-init c =
-    let a = c.args in
-    (omega arith, changed_start a.l (renewed a.n (mask a.f) (mask a.r) (at a.t.now a.l)) a.t.now c.requires.2)
-
-pub load-x-requires : goal.load-x-requires
-load-x-requires c = omega arith
-
-pub has-b-requires : goal.has-b-requires
-has-b-requires c = omega arith
-
-pub store-requires : goal.store-requires
-store-requires c = omega arith
-
-pub overflow_add-k : goal.overflow_add-k
-overflow_add-k c = omega arith
-
-pub loop-k-smaller : goal.loop-k-smaller
-loop-k-smaller c = omega arith
 
 pub loop-k-preserved : goal.loop-k-preserved
 loop-k-preserved c =
@@ -37,17 +16,12 @@ loop-k-preserved c =
     let v = c.loop-k in
     let t = a.t.now in
     let x = c.load-x in
-    let same : mask x.result ≡ at t a.l v.k = x.ensures ∙ v.invariant.1.rest v.k (omega arith) (omega arith) in
-    let gain : mask c.when-y.result ≡ cond (bit_of (mask a.f) v.k) (mask a.r) 0 = c.when-y.ensures ∙ ap (λ b. cond b (mask a.r) 0) c.has-b.ensures in (
-      omega arith,
-      changed_step a.l (renewed a.n (mask a.f) (mask a.r) (at t a.l)) t v.k v.t c.store.new.t (mask c.xor-z.result) c.requires.0 (omega arith)
-          (c.xor-z.ensures ∙ ap₂ bit_xor same gain
-          ∙ sym (if_low v.k a.n (bit_xor (at t a.l v.k) (cond (bit_of (mask a.f) v.k) (mask a.r) 0)) (mask a.r) c.loop-k-test.true))
-          c.store.ensures v.invariant.1,
-    )
-
-pub store-requires-2 : goal.store-requires-2
-store-requires-2 c = omega arith
+    let same : mask x.result ≡ at t a.l v.k = x.ensures ∙ v.invariant.rest v.k (omega arith) (omega arith) in
+    let gain : mask c.when-y.result ≡ cond (bit_of (mask a.f) v.k) (mask a.r) 0 = c.when-y.ensures ∙ ap (λ b. cond b (mask a.r) 0) c.has-b.ensures in
+    changed_step _ _ _ _ _ _ _ c.requires.0 (omega arith)
+    (c.xor-z.ensures ∙ ap₂ bit_xor same gain
+    ∙ sym (if_low v.k a.n (bit_xor (at t a.l v.k) (cond (bit_of (mask a.f) v.k) (mask a.r) 0)) (mask a.r) c.loop-k-test.true))
+    c.store.ensures v.invariant
 
 pub returns : goal.returns
 returns c =
@@ -55,6 +29,6 @@ returns c =
     let v = c.loop-k in
     let t = a.t.now in
     let e : v.k ≡ a.n = omega arith in
-    changed_step a.l (renewed a.n (mask a.f) (mask a.r) (at t a.l)) t a.n v.t c.store-2.new.t (mask a.r) c.requires.0 c.requires.1
+    changed_step _ _ _ _ _ _ _ c.requires.0 c.requires.1
     (sym (if_high a.n a.n (bit_xor (at t a.l a.n) (cond (bit_of (mask a.f) a.n) (mask a.r) 0)) (mask a.r) (omega arith)))
-    c.store-2.ensures (rw e at v.invariant.1)
+    c.store-2.ensures (rw e at v.invariant)

@@ -5,12 +5,6 @@ use Rattle.rows.specs.Row.{mask}
 use Rattle.star.proofs.BuiltLaws.{star_built}
 use Rattle.star.proofs.repeat.Goals as goal
 
-pub renew_rows-requires : goal.renew_rows-requires
-renew_rows-requires c = (c.requires.0.letters, c.requires.1, c.requires.0.initial, c.requires.0.size)
-
-pub unit-new-requires : goal.unit-new-requires
-unit-new-requires c = c.requires.1
-
 pub returns : goal.returns
 returns c =
     let a = c.args in

@@ -76,7 +76,7 @@ store-requires-2 c =
 pub returns : goal.returns
 returns c =
     let a = c.args in
-    swap_stored a.l a.b a.r a.t.now c.requires.1 c.requires.0 c.requires.3 c.requires.4 c.requires.5
+    swap_stored a.l a.b a.r a.t.now c.requires.1 c.requires.0 c.requires.3 c.requires.4 c.told-t
     (mask c.load-p.result) (mask c.load-q.result) (mask c.xor-x.result) (mask c.xor-y.result) c.store.new.t c.store-2.new.t
     c.load-p.ensures (c.load-q.ensures ∙ ap (at a.t.now a.l) (there (goal.at.returns c).After-power-s))
     (c.xor-x.ensures ∙ ap (bit_xor (mask c.load-p.result)) (c.moved-u.ensures ∙ moves (goal.at.returns c).After-and-d))

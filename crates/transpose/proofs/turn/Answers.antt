@@ -9,19 +9,7 @@ use Rattle.transpose.proofs.TurnLaws.{Turned, turn_start, turn_step, turn_end}
 use Rattle.transpose.proofs.turn.Goals as goal
 
 pub loop-b-init : goal.loop-b-init
-loop-b-init c =
-    let a = c.args in
-    (omega arith, only_start a.l a.t.now c.requires.3, turn_start a.l a.w a.t.now c.requires.1 c.requires.2)
-
-pub overflow_sub-b : goal.overflow_sub-b
-overflow_sub-b c = omega arith
-
-pub exchange-requires : goal.exchange-requires
-exchange-requires c =
-    (c.requires.0, c.requires.1, omega (arith, c.loop-b.invariant.0, c.loop-b-test.true), c.loop-b.invariant.1.size)
-
-pub loop-b-smaller : goal.loop-b-smaller
-loop-b-smaller c = omega arith
+loop-b-init c = let a = c.args in (only_start a.l a.t.now c.told-t, turn_start a.l a.w a.t.now c.requires.1 c.requires.2)
 
 pub loop-b-preserved : goal.loop-b-preserved
 loop-b-preserved c =
@@ -29,10 +17,9 @@ loop-b-preserved c =
     let v = c.loop-b in
     let A = padded (2 ^ a.w) (row a.t.now a.l) in
     let e : suc (v.b - 1) ≡ v.b = omega arith in (
-      omega arith,
-      only_then a.l a.t.now v.t c.exchange.new.t v.invariant.1 c.exchange.ensures.0,
-      turn_step a.l a.w (v.b - 1) A v.t c.exchange.new.t c.requires.1 (omega (arith, v.invariant.0)) c.exchange.ensures.1
-          (subst (λ b. Turned (2 ^ a.w) b A (row v.t a.l)) (sym e) v.invariant.2),
+      only_then a.l a.t.now v.t c.exchange.new.t v.invariant.0 c.exchange.ensures.0,
+      turn_step a.l a.w (v.b - 1) A v.t c.exchange.new.t c.requires.1 (omega arith) c.exchange.ensures.1
+          (subst (λ b. Turned (2 ^ a.w) b A (row v.t a.l)) (sym e) v.invariant.1),
     )
 
 pub returns : goal.returns
@@ -40,4 +27,4 @@ returns c =
     let v = c.loop-b in
     let a = c.args in
     let e : v.b ≡ 0 = omega arith in
-    (v.invariant.1, turn_end a.l a.w a.t.now v.t c.requires.1 (rw e at v.invariant.2))
+    (v.invariant.0, turn_end a.l a.w a.t.now v.t c.requires.1 (rw e at v.invariant.1))

@@ -3,8 +3,7 @@ use mathlib.Core.Path.{◌≡◌, refl, sym, ◌∙◌}
 use mathlib.Core.Bool.{true}
 use Prim.Native.Nat.{◌<◌}
 use native.Mathlib.Nat.{le_refl, le_trans, le_of_lt, lt_of_lt_of_le, lt_of_le_of_lt}
-use native.Mathlib.Omega.{arith}
-use borrow.Author.Tests.{eqb-true, eqb-false}
+use borrow.Author.Tests.{eqb-true}
 use lib.ListN.{length, get_or}
 use Rattle.automata.specs.Mask.{bit_of}
 use Rattle.rows.specs.Row.{mask}
@@ -16,17 +15,6 @@ use Rattle.triangular.proofs.insert.Goals as goal
 pub loop-x-init : goal.loop-x-init
 loop-x-init c = let a = c.args in (refl, le_refl _, remainder_start (mask a.p) a.e.now (mask a.y))
 
-pub is_none-requires : goal.is_none-requires
-is_none-requires c = tt
-
-pub highest-q-requires : goal.highest-q-requires
-highest-q-requires c =
-    let some : mask c.loop-x.x ≡ 0 → ⊥ = eqb-false _ 0 (sym c.is_none.ensures ∙ c.loop-x-test.true) in
-    omega arith
-
-pub has-requires : goal.has-requires
-has-requires c = c.highest-q.ensures.0
-
 -- The highest bit of x has its place.
 place : (c : After-highest-q) → c.highest-q.result < length c.loop-x.e
 place c =
@@ -35,12 +23,6 @@ place c =
 
 pub put-requires : goal.put-requires
 put-requires c = place (goal.at.put-requires c).After-highest-q
-
-pub unit-requires : goal.unit-requires
-unit-requires c = c.highest-q.ensures.0
-
-pub or-requires : goal.or-requires
-or-requires c = tt
 
 pub returns-then-not-has : goal.returns-then-not-has
 returns-then-not-has c =
@@ -51,12 +33,6 @@ returns-then-not-has c =
 
 pivot : (c : Else-not-has) → bit_of (mask c.args.p) c.highest-q.result ≡ true
 pivot c = sym c.has.ensures ∙ c.if-not-has.false
-
-pub get-requires : goal.get-requires
-get-requires c = place (goal.at.get-requires c).After-highest-q
-
-pub xor-x-requires : goal.xor-x-requires
-xor-x-requires c = tt
 
 pub loop-x-smaller : goal.loop-x-smaller
 loop-x-smaller c =
