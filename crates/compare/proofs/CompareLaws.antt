@@ -12,18 +12,20 @@ use Rattle.automata.specs.MinimalOf.{dimension_of}
 use Rattle.automata.proofs.Dimension.{dimension_unique, dimension_of_lem}
 use Rattle.automata.proofs.FirstDifference.{difference_some, difference_short}
 use Rattle.record.specs.Record.{letters_of, automaton_of, language_of}
+use Rattle.std.specs.Prelude.{Ok, Err, None, Some}
+use Rattle.record.specs.Rules.{Checks, refusal}
+use Rattle.record.specs.declared.Refusal.{Refusal}
+use Rattle.record.specs.declared.Rule.{Rule}
+use Rattle.record.specs.declared.Rule.TheVariants.{NoRoom}
 use Rattle.record.specs.Outcome.{refused, wrote, fit}
 use Rattle.record.proofs.Outcome.{fit_short, fit_done}
 use Rattle.record.proofs.Claims.{dimension_fits}
 use Rattle.record.specs.Claims.{Operands, FirstWord}
 use Rattle.operands.specs.Operands.{pair_of}
-use Rattle.operands.specs.declared.Pair.{Pair}
-use Rattle.operands.specs.declared.Pair.TheVariants.{Both, Refused as Bad}
 use Rattle.operands.proofs.PairLaws.{both_passed}
-use Rattle.compare.specs.Compare.{difference_of, compare_outcome, side_of, compared_as, compare_answer, ShortWord}
-use Rattle.compare.specs.declared.Side.{Side}
-use Rattle.compare.specs.declared.Compared.{Compared}
-use Rattle.compare.specs.declared.Compared.TheVariants.{Same as IsSame, Differs, Refused}
+use Rattle.verdict.specs.Side.{side_of}
+use Rattle.verdict.specs.declared.Side.{Side}
+use Rattle.compare.specs.Compare.{Compared, difference_of, compare_outcome, differs, compared_as, compare_answer, ShortWord}
 
 pub clash : {X : Type 0} → ◌≡◌ {A = ℕ} 0 1 → X
 clash z = absurd (omega arith)
@@ -31,11 +33,11 @@ clash z = absurd (omega arith)
 -- ---- the cases of the outcome
 
 module _ (bs cs : List ℕ) (room : ℕ) where
-  pub outcome_refused : (number which place : ℕ) → pair_of bs cs ≡ Bad number which place → compare_outcome bs cs room ≡ refused number which place
+  pub outcome_refused : (r : Refusal) → pair_of bs cs ≡ Err r → compare_outcome bs cs room ≡ refused r.rule r.record r.place
   unfolding compare_outcome
-  outcome_refused number which place e = rw e
+  outcome_refused r e = rw e
 
-  module _ (both : pair_of bs cs ≡ Both) where
+  module _ (both : pair_of bs cs ≡ Ok tt) where
     pub outcome_same : difference_of bs cs ≡ none → compare_outcome bs cs room ≡ wrote []
     unfolding compare_outcome
     outcome_same e = rw (both, e)
@@ -46,15 +48,15 @@ module _ (bs cs : List ℕ) (room : ℕ) where
 
 -- ---- the cases of the answer
 
-module _ (bs cs : List ℕ) (room : ℕ) (both : pair_of bs cs ≡ Both) where
+module _ (bs cs : List ℕ) (room : ℕ) (both : pair_of bs cs ≡ Ok tt) where
   -- The word is written in full exactly where there is room for it.
-  pub word_answer : (w : List ℕ) → difference_of bs cs ≡ some w → length w ≤ room → compare_answer bs cs room ≡ Differs (length w) (side_of (language_of bs w))
+  pub word_answer : (w : List ℕ) → difference_of bs cs ≡ some w → length w ≤ room → compare_answer bs cs room ≡ Ok (Some (differs (length w) (side_of (language_of bs w))))
   word_answer w e h = ap₂ (λ d o. compared_as d (automaton_of bs) o) e (outcome_word bs cs room both w e ∙ fit_done room w refl h)
 
-  pub word_withheld : (w : List ℕ) → difference_of bs cs ≡ some w → room < length w → compare_answer bs cs room ≡ Refused 12 0 (length w)
+  pub word_withheld : (w : List ℕ) → difference_of bs cs ≡ some w → room < length w → compare_answer bs cs room ≡ Err (refusal NoRoom 0 (length w))
   word_withheld w e h = ap₂ (λ d o. compared_as d (automaton_of bs) o) e (outcome_word bs cs room both w e ∙ fit_short room w refl h)
 
-  pub same_answer : difference_of bs cs ≡ none → compare_answer bs cs room ≡ IsSame
+  pub same_answer : difference_of bs cs ≡ none → compare_answer bs cs room ≡ Ok None
   same_answer e = ap₂ (λ d o. compared_as d (automaton_of bs) o) e (outcome_same bs cs room both e)
 
 -- ---- what the answer tells
@@ -79,7 +81,7 @@ word_short bs cs w p e =
 -- The first word that just one of two records accepts was found.
 pub record Found (bs cs : List ℕ) : Type 0 where
   pub word : List ℕ
-  pub both : pair_of bs cs ≡ Both
+  pub both : pair_of bs cs ≡ Ok tt
   pub found : difference_of bs cs ≡ some word
   pub first : FirstWord bs cs word
   pub short : ShortWord bs cs (length word)
@@ -91,17 +93,17 @@ pub record Written (bs cs : List ℕ) (room n : ℕ) (s : Side) : Type 0 where
   pub count : n ≡ length difference.word
   pub side : s ≡ side_of (language_of bs difference.word)
 
-pub record Kept (bs cs : List ℕ) (room number which place : ℕ) : Type 0 where
+pub record Kept (bs cs : List ℕ) (room : ℕ) (r : Refusal) : Type 0 where
   pub difference : Found bs cs
   pub less : room < length difference.word
-  pub twelve : number ≡ 12
-  pub none : which ≡ 0
-  pub count : place ≡ length difference.word
+  pub twelve : r.rule ≡ NoRoom
+  pub none : r.record ≡ 0
+  pub count : r.place ≡ length difference.word
 
 abbrev pub Case : List ℕ → List ℕ → ℕ → Compared → Type 0
-Case bs cs room IsSame = (pair_of bs cs ≡ Both) × (difference_of bs cs ≡ none)
-Case bs cs room (Differs n s) = Written bs cs room n s
-Case bs cs room (Refused number which place) = (pair_of bs cs ≡ Bad number which place) ⊎ Kept bs cs room number which place
+Case bs cs room (Ok None) = (pair_of bs cs ≡ Ok tt) × (difference_of bs cs ≡ none)
+Case bs cs room (Ok (Some d)) = Written bs cs room d.length d.side
+Case bs cs room (Err r) = (pair_of bs cs ≡ Err r) ⊎ Kept bs cs room r
 
 module _ (bs cs : List ℕ) (room : ℕ) where
   pub case : (r : Compared) → r ≡ compare_answer bs cs room → Case bs cs room r
@@ -116,7 +118,7 @@ module _ (bs cs : List ℕ) (room : ℕ) where
           subst (Case bs cs room) (sym (word_answer bs cs room f.both f.word f.found (omega arith)))
           (record { difference = f; written = outcome_word bs cs room f.both f.word f.found ∙ fit_done room f.word refl (omega arith); count = refl; side = refl })
 
-      verdict : pair_of bs cs ≡ Both → (d : Option (List ℕ)) → difference_of bs cs ≡ d → Case bs cs room (compare_answer bs cs room)
+      verdict : pair_of bs cs ≡ Ok tt → (d : Option (List ℕ)) → difference_of bs cs ≡ d → Case bs cs room (compare_answer bs cs room)
       verdict both none h = subst (Case bs cs room) (sym (same_answer bs cs room both h)) (both, h)
       verdict both (some w) h =
           word (record {
@@ -127,7 +129,7 @@ module _ (bs cs : List ℕ) (room : ℕ) where
             short = word_short bs cs w (both_passed bs cs both) h;
           }) (dec_lt room (length w))
 
-      pair : (p : Pair) → pair_of bs cs ≡ p → Case bs cs room (compare_answer bs cs room)
-      pair Both h = verdict h (difference_of bs cs) refl
-      pair (Bad number which place) h =
-          subst (λ o. Case bs cs room (compared_as (difference_of bs cs) (automaton_of bs) o)) (sym (outcome_refused bs cs room number which place h)) (inl h)
+      pair : (p : Checks) → pair_of bs cs ≡ p → Case bs cs room (compare_answer bs cs room)
+      pair (Ok u) h = verdict h (difference_of bs cs) refl
+      pair (Err x) h =
+          subst (λ o. Case bs cs room (compared_as (difference_of bs cs) (automaton_of bs) o)) (sym (outcome_refused bs cs room x h)) (inl h)

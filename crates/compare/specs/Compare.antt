@@ -2,56 +2,58 @@
 -- service's contract puts its records in as they are meant (`as_meant`, operands/specs/Meant).
 --   difference_of bs cs         the first word that just one accepts, if there is one
 --   compare_outcome bs cs room  what is written, or the refusal: the word, or nothing where the languages are the same
---   compared_as                 the answer: Same, Differs with the word's length and the side that accepts it, or Refused
+--   Compared                    an answer: None where the words are the same, else the first word's length and the side that accepts it; or the
+--                               refusal
+--   differs n s                 a word of n letters, accepted by the side s
+--   compared_as                 the answer to an outcome
 --   compare_answer bs cs room   that answer
 --   acceptor_of s bs cs         the record that the side names
 --   Differ bs cs w s            w is the first word that just one of the two accepts, and the side s accepts it
 --   ShortWord bs cs n           n letters are at most 63, and fewer than the two dimensions added
 --   Withheld bs cs buf k        a first word of k letters that was not written, since the buffer is shorter
 --   Compares bs cs buf exit r   what is claimed of the answer r and the buffer at exit, over all words
-use Rattle.std.specs.Prelude.{◌≡◌, Bool, true, false, List, [], ℕ, ◌+◌, ◌<◌, ◌≤◌, length, take}
-use Rattle.std.proofs.Math.Option.{Option, none, some}
+use Rattle.std.specs.Prelude.{◌≡◌, true, List, [], ℕ, ◌+◌, ◌<◌, ◌≤◌, length, take, Result, Ok, Err, Option, None, Some}
+use Rattle.std.proofs.Math.Option.{Option as Found, none, some}
 use Rattle.automata.specs.Automaton.{Automaton, accepts}
 use Rattle.automata.specs.FirstDifference.{first_difference}
 use Rattle.record.specs.Record.{letters_of, automaton_of, language_of}
 use Rattle.record.specs.Claims.{HasDimension, Operands, SameWords, FirstWord}
+use Rattle.record.specs.Rules.{refusal}
 use Rattle.record.specs.Outcome.{Outcome, refused, wrote, fit}
+use Rattle.record.specs.declared.Refusal.{Refusal}
+use Rattle.record.specs.declared.Rule.TheVariants.{NoRoom}
 use Rattle.operands.specs.Operands.{pair_of, after_pair}
-use Rattle.operands.specs.declared.Pair.{Pair}
-use Rattle.operands.specs.declared.Pair.TheVariants.{Both, Refused as Bad}
-use Rattle.compare.specs.declared.Side.{Side}
-use Rattle.compare.specs.declared.Side.TheVariants.{First, Second}
-use Rattle.compare.specs.declared.Compared.{Compared}
-use Rattle.compare.specs.declared.Compared.TheVariants.{Same, Differs, Refused}
+use Rattle.verdict.specs.Side.{side_of}
+use Rattle.verdict.specs.declared.Side.{Side}
+use Rattle.verdict.specs.declared.Side.TheVariants.{First, Second}
+use Rattle.compare.specs.declared.Difference.{Difference}
 
-unfoldable pub difference_of : List ℕ → List ℕ → Option (List ℕ)
+unfoldable pub difference_of : List ℕ → List ℕ → Found (List ℕ)
 difference_of bs cs = first_difference (letters_of bs) (automaton_of bs) (automaton_of cs)
 
 -- Row 12 is met only when the languages differ.
-abbrev pub word_outcome : ℕ → Option (List ℕ) → Outcome
+abbrev pub word_outcome : ℕ → Found (List ℕ) → Outcome
 word_outcome room none = wrote []
 word_outcome room (some w) = fit room w
 
 unfoldable pub compare_outcome : List ℕ → List ℕ → ℕ → Outcome
 compare_outcome bs cs room = after_pair (pair_of bs cs) (word_outcome room (difference_of bs cs))
 
-abbrev pub side_of : Bool → Side
-side_of true = First
-side_of false = Second
-
 abbrev pub acceptor_of : Side → List ℕ → List ℕ → List ℕ
 acceptor_of First bs cs = bs
 acceptor_of Second bs cs = cs
 
-abbrev pub compared_refusal : Pair → Compared
-compared_refusal Both = Same
-compared_refusal (Bad number which place) = Refused number which place
+abbrev pub Compared : Type 0
+Compared = Result (Option Difference) Refusal
+
+abbrev pub differs : ℕ → Side → Difference
+differs n s = record { length = n; side = s }
 
 -- The first difference, the first record's automaton, and what the service did.
-abbrev pub compared_as : Option (List ℕ) → Automaton → Outcome → Compared
-compared_as d A (refused number which place) = Refused number which place
-compared_as none A (wrote out) = Same
-compared_as (some w) A (wrote out) = Differs (length w) (side_of (accepts A w))
+abbrev pub compared_as : Found (List ℕ) → Automaton → Outcome → Compared
+compared_as d A (refused rule which place) = Err (refusal rule which place)
+compared_as none A (wrote out) = Ok None
+compared_as (some w) A (wrote out) = Ok (Some (differs (length w) (side_of (accepts A w))))
 
 abbrev pub compare_answer : List ℕ → List ℕ → ℕ → Compared
 compare_answer bs cs room = compared_as (difference_of bs cs) (automaton_of bs) (compare_outcome bs cs room)
@@ -77,11 +79,11 @@ pub record Withheld (bs cs buf : List ℕ) (k : ℕ) : Type 0 where
   pub short : ShortWord bs cs k
 
 pub record Compares (bs cs buf exit : List ℕ) (r : Compared) : Type 0 where
-  -- Same comes exactly when no word of any length is accepted by just one.
-  pub same : Operands bs cs → (r ≡ Same → SameWords bs cs) × (SameWords bs cs → r ≡ Same)
+  -- None comes exactly when no word of any length is accepted by just one.
+  pub same : Operands bs cs → (r ≡ Ok None → SameWords bs cs) × (SameWords bs cs → r ≡ Ok None)
   -- Otherwise the first such word is named and who accepts it, where the buffer has room for it; and what is named is that word.
-  pub names : Operands bs cs → (w : List ℕ) (s : Side) → Differ bs cs w s → length w ≤ length buf → r ≡ Differs (length w) s
-  pub named : (n : ℕ) (s : Side) → r ≡ Differs n s → Operands bs cs × Differ bs cs (take n exit) s × ShortWord bs cs n
+  pub names : Operands bs cs → (w : List ℕ) (s : Side) → Differ bs cs w s → length w ≤ length buf → r ≡ Ok (Some (differs (length w) s))
+  pub named : (n : ℕ) (s : Side) → r ≡ Ok (Some (differs n s)) → Operands bs cs × Differ bs cs (take n exit) s × ShortWord bs cs n
   -- It is withheld exactly where the buffer is too short, its length as place.
-  pub withholds : Operands bs cs → (w : List ℕ) → FirstWord bs cs w → length buf < length w → r ≡ Refused 12 0 (length w)
-  pub withheld : (k : ℕ) → r ≡ Refused 12 0 k → Operands bs cs × Withheld bs cs buf k
+  pub withholds : Operands bs cs → (w : List ℕ) → FirstWord bs cs w → length buf < length w → r ≡ Err (refusal NoRoom 0 (length w))
+  pub withheld : (k : ℕ) → r ≡ Err (refusal NoRoom 0 k) → Operands bs cs × Withheld bs cs buf k

@@ -1,5 +1,0 @@
--- `refuse`: case by case.
-use Rattle.compare.proofs.refuse.Goals as goal
-
-pub returns-in-Refused : goal.returns-in-Refused
-returns-in-Refused c = rw c.in-Refused.is
