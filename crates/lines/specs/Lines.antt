@@ -7,8 +7,8 @@
 --   Begins out n text          the first n bytes of a buffer are the text
 use Rattle.std.specs.Prelude.{◌≡◌, List, ◌++◌, ℕ, ◌≤◌, length, take}
 use Rattle.text.specs.Text.{ascii, decimal, word_text}
-use Rattle.compare.specs.declared.Side.{Side}
-use Rattle.compare.specs.declared.Side.TheVariants.{First, Second}
+use Rattle.verdict.specs.declared.Side.{Side}
+use Rattle.verdict.specs.declared.Side.TheVariants.{First, Second}
 
 -- How the line of a record starts: its index, words, and a number.
 unfoldable pub opening : ℕ → List ℕ → ℕ → List ℕ
