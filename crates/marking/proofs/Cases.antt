@@ -7,7 +7,7 @@ use borrow.Author.Tests.{lt-ltb, le-ltb, eq-eqb, ne_eqb}
 use lib.ListN.{length, take}
 use Rattle.record.specs.Record.{check_of, WellFormed}
 use Rattle.record.specs.Outcome.{wrote}
-use Rattle.record.specs.declared.Checked.TheVariants.{Refused as Bad}
+use Rattle.std.specs.Prelude.{None, Some, Ok, Err}
 use Rattle.record.proofs.Outcome.{fit_done}
 use Rattle.script.specs.Script.{part_at, after_part}
 use Rattle.script.proofs.Parts.{end_met}
