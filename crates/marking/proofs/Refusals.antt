@@ -22,7 +22,7 @@ use Rattle.script.proofs.Parts.{PartAmong, part_numbers}
 use Rattle.lines.specs.Lines.{refused_line, key_line, too_long_line}
 use Rattle.lines.proofs.Readable.{refused_number, key_not_refused, same_not_refused, differ_not_refused, long_not_refused, none_not_refused}
 use Rattle.walk.specs.Walk.{place_of}
-use Rattle.marking.specs.Marking.{max_script, dimension_in, checked_line, key_record_line, verdict_line, paired_line, answer_line, key_of, record_line, part_line, line_at, mark_line}
+use Rattle.marking.specs.Marking.{max_script, dimension_in, fault_line, checked_line, key_record_line, verdict_line, paired_line, answer_line, key_of, record_line, part_line, line_at, mark_line}
 use Rattle.marking.specs.Told.{RefusedWith}
 
 abbrev Only : List ℕ → Type 0
@@ -51,7 +51,7 @@ unfolding answer_line
 answer_only index key answer = go (pair_of key answer) (pair_numbers_lem key answer) (difference_of key answer)
   where
     go : (q : Checks) → PairAmong pair_numbers q → (d : Option (List ℕ)) → Only (paired_line index q (verdict_line index key (dimension_in answer) d))
-    go (Err r) m d = fault_only index (fault r.rule r.place) (m r refl)
+    go (Err r) m d = fault_only index (fault r.rule r.place) m
     go (Ok u) m none = λ i n p e. absurd (same_not_refused i n p index (dimension_in answer) e)
     go (Ok u) m (some w) = λ i n p e. absurd (differ_not_refused i n p index (dimension_in answer) w (side_of (language_of key w)) e)
 
