@@ -6,8 +6,9 @@ use native.Mathlib.Decide.{dec_le}
 use native.Mathlib.Omega.{arith}
 use lib.ListN.{length, take}
 use borrow.Author.Tests.{lt-ltb, le-ltb}
-use Rattle.record.specs.declared.Written.{Written}
-use Rattle.record.specs.declared.Written.TheVariants.{Done, Refused}
+use Rattle.std.specs.Prelude.{Result, Ok, Err}
+use Rattle.record.specs.declared.Rule.TheVariants.{NoEntry}
+use Rattle.record.specs.declared.Refusal.{Refusal}
 use Rattle.record.specs.Claims.{MinimalRecord}
 use Rattle.record.specs.Outcome.{refused, fit, answer_of, buffer_of, answer_in, buffer_in}
 use Rattle.record.proofs.Outcome.{fit_bytes}
@@ -18,7 +19,7 @@ use Rattle.catalogue.proofs.Records.{record_claims}
 -- ---- the cases
 
 module _ (number room : ℕ) where
-  pub number_met : last < number → catalogue_of number room ≡ refused 13 0 number
+  pub number_met : last < number → catalogue_of number room ≡ refused NoEntry 0 number
   unfolding catalogue_of
   number_met h = rw (lt-ltb last number h)
 
@@ -28,10 +29,10 @@ module _ (number room : ℕ) where
 
 -- ---- the bytes written
 
-never_both : {n number which place : ℕ} → Refused number which place ≡ Done n → ⊥
+never_both : {n : ℕ} {r : Refusal} → ◌≡◌ {A = Result ℕ Refusal} (Err r) (Ok n) → ⊥
 never_both e = let z : ◌≡◌ {A = ℕ} 0 1 = cc in omega arith
 
-given_bytes : (number room n : ℕ) (buf : List ℕ) → answer_of (catalogue_of number room) ≡ Done n
+given_bytes : (number room n : ℕ) (buf : List ℕ) → answer_of (catalogue_of number room) ≡ Ok n
     → (number ≤ last) × (take n (buffer_of (catalogue_of number room) buf) ≡ record_of number)
 given_bytes number room n buf e = go (dec_le number last)
   where
@@ -41,7 +42,7 @@ given_bytes number room n buf e = go (dec_le number last)
 
 -- ---- the promises
 
-module _ (number : ℕ) (buf out : List ℕ) (r : Written) (answer : r ≡ answer_in (catalogue_of number) buf) (buffer : out ≡ buffer_in (catalogue_of number) buf) where
+module _ (number : ℕ) (buf out : List ℕ) (r : Result ℕ Refusal) (answer : r ≡ answer_in (catalogue_of number) buf) (buffer : out ≡ buffer_in (catalogue_of number) buf) where
   -- What is claimed of the entry's record is claimed of the bytes written.
   pub promises : (r ≡ answer_in (catalogue_of number) buf) × ((out ≡ buffer_in (catalogue_of number) buf) × GivesEntry number out r)
   promises = (answer, (buffer, claims))

@@ -6,13 +6,13 @@
 --   record_of j          its record
 --   catalogue_of j room  what the service does with a buffer of so many bytes: row 13, then 12, else the record
 --   GivesEntry j exit r  what is claimed of the answer r and the buffer at exit, over all words and all automata
-use Rattle.std.specs.Prelude.{◌≡◌, cond, List, [], ◌∷◌, ℕ, ◌+◌, ◌*◌, ltb, get_or, take}
+use Rattle.std.specs.Prelude.{◌≡◌, cond, List, [], ◌∷◌, ℕ, ◌+◌, ◌*◌, ltb, get_or, take, Result, Ok}
 use Rattle.automata.specs.Automaton.{Automaton}
 use Rattle.automata.specs.Mask.{bit_of}
 use Rattle.record.specs.Record.{encode}
 use Rattle.record.specs.Claims.{MinimalRecord}
-use Rattle.record.specs.declared.Written.{Written}
-use Rattle.record.specs.declared.Written.TheVariants.{Done}
+use Rattle.record.specs.declared.Rule.TheVariants.{NoEntry}
+use Rattle.record.specs.declared.Refusal.{Refusal}
 use Rattle.record.specs.Outcome.{Outcome, refused, fit}
 use Rattle.catalogue.specs.Words.{entry_words}
 
@@ -61,8 +61,8 @@ unfoldable pub record_of : ℕ → List ℕ
 record_of j = encode (letters_at j) (entry_of j)
 
 unfoldable pub catalogue_of : ℕ → ℕ → Outcome
-catalogue_of number room = cond (ltb last number) (refused 13 0 number) (fit room (record_of number))
+catalogue_of number room = cond (ltb last number) (refused NoEntry 0 number) (fit room (record_of number))
 
 -- Where the answer grants, the bytes written are the minimal record of the entry's words.
-abbrev pub GivesEntry : ℕ → List ℕ → Written → Type 0
-GivesEntry j exit r = (n : ℕ) → r ≡ Done n → MinimalRecord (letters_at j) (entry_words j) (take n exit)
+abbrev pub GivesEntry : ℕ → List ℕ → Result ℕ Refusal → Type 0
+GivesEntry j exit r = (n : ℕ) → r ≡ Ok n → MinimalRecord (letters_at j) (entry_words j) (take n exit)

@@ -9,7 +9,7 @@ ghost use Rattle.record.specs.Held.{HeldUpTo, Holds};
 ghost use Rattle.catalogue.specs.Entries.{last, record_of, catalogue_of, GivesEntry};
 ghost use Rattle.catalogue.specs.Told.{Tells};
 
-use record::Written;
+use record::{Refusal, Rule};
 use rows::{Machine, Table};
 
 // The last number.
@@ -111,17 +111,13 @@ fn load(j: usize, t: &mut Table) -> Machine
 }
 
 // The record of an entry into a lent buffer, or refusal 13 or 12. `claims`: what is written is the minimal record of the entry's words.
-pub fn give(number: usize, out: &mut [u8]) -> Written
+pub fn give(number: usize, out: &mut [u8]) -> Result<usize, Refusal>
     ensures answer { result ≡ answer_in (catalogue_of number) out.old }
     ensures buffer { out.new ≡ buffer_in (catalogue_of number) out.old }
     ensures claims { GivesEntry number out.new result }
 {
     if LAST < number {
-        return Written::Refused {
-            number: 13,
-            record: 0,
-            place: number,
-        };
+        return Err(Rule::NoEntry.of(0, number));
     }
     let mut t = [0u64; 512];
     let m = load(number, &mut t);

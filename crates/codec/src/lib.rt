@@ -14,46 +14,17 @@ ghost use Rattle.record.specs.Record.{max_states, max_letters, row_bytes, header
 ghost use Rattle.record.specs.Outcome.{fit, answer_of, buffer_of, rewrite_of};
 ghost use Rattle.record.specs.Held.{HeldUpTo, Holds};
 
-use record::{FINAL_AT, INITIAL_AT, ROW_BYTES, ROWS_AT, Refusal, Rule, VERSION};
+pub mod lent;
+
+use record::{FINAL_AT, INITIAL_AT, ROW_BYTES, ROWS_AT, Record, Refusal, Rule, VERSION};
 use rows::{Machine, Row, Table};
 
-// The rows of letter l, into block l.
-fn read_block(bytes: &[u8], l: usize, t: &mut Table)
-    requires { WellFormed bytes.now × (l < letters_of bytes.now) × HeldUpTo bytes.now t.old l 0 }
-    ensures { HeldUpTo bytes.now t.new l (states_of bytes.now) }
-{
-    let n = record::size(bytes[5]);
-    let first = l * n;
-    let mut i = 0;
-    while i < n {
-        rows::store(
-            t,
-            l,
-            i,
-            record::field_at(bytes, ROWS_AT + ROW_BYTES * (first + i)),
-        );
-        i += 1;
-    }
-}
-
-// A well-formed record read: its rows into a lent table, the rest into a machine.
+// The same for the bytes of a well-formed record.
 pub fn read(bytes: &[u8], t: &mut Table) -> Machine
     requires { WellFormed bytes.now × (length t.old ≡ table_size) }
     ensures { Holds bytes.now t.new result }
 {
-    let n = record::size(bytes[5]);
-    let a = record::size(bytes[6]);
-    let mut l = 0;
-    while l < a {
-        read_block(bytes, l, t);
-        l += 1;
-    }
-    Machine {
-        states: n,
-        letters: a,
-        initial: record::field_at(bytes, INITIAL_AT),
-        finals: record::field_at(bytes, FINAL_AT),
-    }
+    lent::read(Record { bytes }, t)
 }
 
 // The low byte of a number.
@@ -143,8 +114,8 @@ pub fn rewrite(bytes: &[u8], buf: &mut [u8]) -> Result<usize, Refusal>
     ensures answer { result ≡ answer_of (rewrite_of bytes.now (length buf.old)) }
     ensures buffer { buf.new ≡ buffer_of (rewrite_of bytes.now (length buf.old)) buf.old }
 {
-    record::check_as(bytes, 1)?;
+    let lent = Record::check_as(bytes, 1)?;
     let mut t = [0u64; 512];
-    let m = read(bytes, &mut t);
+    let m = lent::read(lent, &mut t);
     write(&t, m, buf)
 }

@@ -15,7 +15,6 @@ use Rattle.record.specs.Record.{letters_of, automaton_of, language_of}
 use Rattle.std.specs.Prelude.{Ok, Err, None, Some}
 use Rattle.record.specs.Rules.{Checks, refusal}
 use Rattle.record.specs.declared.Refusal.{Refusal}
-use Rattle.record.specs.declared.Rule.{Rule}
 use Rattle.record.specs.declared.Rule.TheVariants.{NoRoom}
 use Rattle.record.specs.Outcome.{refused, wrote, fit}
 use Rattle.record.proofs.Outcome.{fit_short, fit_done}

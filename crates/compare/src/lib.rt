@@ -24,8 +24,9 @@ fn settle(first: &[u8], second: &[u8], word: &mut [u8]) -> Result<Option<Differe
     ensures answer { result ≡ compare_answer first.now second.now (length word.old) }
     ensures buffer { word.new ≡ buffer_in (compare_outcome first.now second.now) word.old }
 {
-    let mut w = [0u8; 128];
-    let Some(apart) = comparison::compare(&*first, &*second, &mut w) else {
+    let mut w = trail::empty();
+    let v = comparison::compare(&*first, &*second, &mut w);
+    let Some(apart) = v else {
         return Ok(None);
     };
     let a = record::size(first[6]);

@@ -13,6 +13,7 @@ use Rattle.rows.specs.declared.Machine.{Machine}
 use Rattle.rows.specs.Row.{mask}
 use Rattle.rows.specs.Machine.{auto_by}
 use Rattle.basis.specs.Basis.{bits}
+use Rattle.trail.specs.declared.Step.{Step}
 use Rattle.trail.specs.Trail.{from_in, by_in}
 use Rattle.record.specs.Bytes.{number}
 use Rattle.record.specs.Record.{row_bytes, final_at, states_of, letters_of, automaton_of}
@@ -39,12 +40,12 @@ module _ (bs cs : List ℕ) (m : Machine) (P : Paired bs cs m) where
   both = auto_by (beside_of bs cs) m.states (mask m.initial) (mask m.finals)
 
   -- Every pair is done and no row is accepted.
-  pub judged_same : (σ : ℕ) (b w : List ℕ) (d p v : ℕ) → Hunting σ a (beside_of bs cs) m.states (mask m.initial) (mask m.finals) b w d d 0 p v → first_difference (letters_of bs) A B ≡ none
+  pub judged_same : (σ : ℕ) (b : List ℕ) (w : List Step) (d p v : ℕ) → Hunting σ a (beside_of bs cs) m.states (mask m.initial) (mask m.finals) b w d d 0 p v → first_difference (letters_of bs) A B ≡ none
   judged_same σ b w d p v H = subst (λ x. first_difference x A B ≡ none) P.letters
       (no_row a both A B (paired_thin bs cs m P) (paired_bits bs cs m P) d d 0 (bit_of p) (bits σ b 1) (bits σ b 0) H.coef (from_in w) (by_in w) H.made H.search H.none)
 
   -- The search stopped at row r, which is x.
-  pub judged_differs : (w : List ℕ) (r x : ℕ) (s : Side) → s ≡ side_of (shared (states_of bs) (number row_bytes bs final_at) x)
+  pub judged_differs : (w : List Step) (r x : ℕ) (s : Side) → s ≡ side_of (shared (states_of bs) (number row_bytes bs final_at) x)
       → Stopped a (beside_of bs cs) m.states (mask m.initial) (mask m.finals) w r x → Found (letters_of bs) A B w r s
   judged_differs w r x s e H = subst (λ z. Found z A B w r s) P.letters (record {
     word = first_row_lem a both A B (paired_thin bs cs m P) (paired_bits bs cs m P) H.count H.upto H.next H.pivots H.rows H.base H.coef (from_in w) (by_in w) H.made H.inside.2 H.inside.1 H.search r H.inside.0 (xor_cong m.states (λ j g. ap (λ b. b && bit_of (mask m.finals) j) (H.row j)) ∙ H.found) H.first;

@@ -1,10 +1,10 @@
 -- Two records of at most two states together: a word of at most one letter tells their languages apart, if any does.
 use mathlib.Core.Path.{◌≡◌, sym, ap, subst, ◌∙◌}
-use mathlib.Core.Bool.{true, false}
+use mathlib.Core.Bool.{Bool, true, false}
 use mathlib.Core.List.{List, [], ◌∷◌, ◌++◌}
 use mathlib.Core.Logic.{inl, inr}
 use mathlib.Core.Option.{none, some}
-use Prim.Native.Nat.{ℕ, ◌+◌, ◌<◌, ◌≤◌}
+use Prim.Native.Nat.{ℕ, ◌+◌, ◌^◌, ◌<◌, ◌≤◌}
 use native.Mathlib.Omega.{arith}
 use lib.ListN.{length}
 use Rattle.automata.specs.Xor.{◌⊕◌}
@@ -18,6 +18,7 @@ use Rattle.rows.specs.declared.Machine.{Machine}
 use Rattle.rows.specs.Row.{mask}
 use Rattle.rows.specs.Table.{blocks}
 use Rattle.rows.specs.Product.{product}
+use Rattle.trail.specs.declared.Step.{Step}
 use Rattle.trail.specs.Trail.{trail_size, from_in, by_in, word_in, linked, Traced}
 use Rattle.trail.proofs.LinkLaws.{linked_from_new, linked_by_new}
 use Rattle.record.specs.Bytes.{number}
@@ -29,11 +30,11 @@ use Rattle.verdict.specs.declared.Side.{Side}
 use Rattle.verdict.specs.Side.{side_of}
 use Rattle.verdict.specs.Judged.{Found}
 use Rattle.verdict.specs.Rows.{RowOf}
-use Rattle.verdict.proofs.RowLaws.{row_start, row_next, row_differs, row_first}
+use Rattle.verdict.proofs.RowLaws.{row_start, row_next, row_below, row_differs, row_first}
 
 -- ---- the trail of one letter
 
-module _ (a l : ℕ) (w w' : List ℕ) (t : length w ≡ trail_size) (e : w' ≡ linked w 1 0 l) where
+module _ (a l : ℕ) (w w' : List Step) (t : length w ≡ trail_size) (e : w' ≡ linked w 1 0 l) where
   from_one : from_in w' 1 ≡ 0
   from_one = ap (λ v. from_in v 1) e ∙ linked_from_new w 1 0 l (omega arith) t
 
@@ -68,10 +69,14 @@ module _ (bs cs : List ℕ) (m : Machine) (P : Paired bs cs m) (empty : shared m
     pub letter_row : RowOf bs cs (l ∷ []) y
     letter_row = row_next bs cs m P [] (mask m.initial) l y (row_start bs cs m P) h e
 
+    -- The parity of its row with the final column tells whether just one accepts it.
+    pub letter_told : (r t : Bool) → ((n : ℕ) → y < 2 ^ n → r ≡ shared n y (mask m.finals)) → r ≡ t → shared m.states y (mask m.finals) ≡ t
+    letter_told r t p q = sym (p m.states (row_below bs cs m P (l ∷ []) y letter_row)) ∙ q
+
     pub letter_tried : shared m.states y (mask m.finals) ≡ false → accepts A (l ∷ []) ⊕ accepts B (l ∷ []) ≡ false
     letter_tried t = row_differs bs cs m P (l ∷ []) y letter_row ∙ t
 
-    pub letter_found : (w w' : List ℕ) → length w ≡ trail_size → w' ≡ linked w 1 0 l → (s : Side) → s ≡ side_of (shared (states_of bs) (number row_bytes bs final_at) y) → shared m.states y (mask m.finals) ≡ true
+    pub letter_found : (w w' : List Step) → length w ≡ trail_size → w' ≡ linked w 1 0 l → (s : Side) → s ≡ side_of (shared (states_of bs) (number row_bytes bs final_at) y) → shared m.states y (mask m.finals) ≡ true
         → ((x : ℕ) → x < l → accepts A (x ∷ []) ⊕ accepts B (x ∷ []) ≡ false) → Found (letters_of bs) A B w' 1 s
     letter_found w w' t q s e' d before = subst (λ a. Found a A B w' 1 s) P.letters (record {
       word = some_difference m.letters A B (l ∷ []) (record { over = (h, tt); differs = row_differs bs cs m P (l ∷ []) y letter_row ∙ d; first = λ u o g. xor_zero (earlier u g) }) ∙ ap some (sym (word_one m.letters l w w' t q));

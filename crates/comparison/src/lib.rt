@@ -2,15 +2,14 @@
 #![tactic(auto)]
 
 ghost use Rattle.std.specs.Prelude.{◌≡◌, ◌/◌, ◌≤◌, length};
-ghost use Rattle.basis.specs.Basis.{parts, Room};
+ghost use Rattle.basis.specs.Basis.{parts, basis_size, Room};
 ghost use Rattle.trail.specs.Trail.{trail_size};
 ghost use Rattle.record.specs.Claims.{Operands};
 ghost use Rattle.verdict.specs.Judged.{JudgedOf, Undecided};
 
-use std::ops::ControlFlow;
-
 use record::FINAL_AT;
 use rows::{Machine, Row};
+use std::ops::ControlFlow;
 use trail::Trail;
 use verdict::Apart;
 
@@ -65,7 +64,7 @@ fn search_in<const ROOM: usize>(
     g: Row,
     w: &mut Trail,
 ) -> Option<Apart>
-    requires { (m.states ≤ ROOM / parts) × Undecided first.now second.now m g w.old }
+    requires { (m.states ≤ ROOM / parts) × (ROOM ≤ basis_size) × Undecided first.now second.now m g w.old }
     ensures { JudgedOf first.now second.now w.new result }
 {
     let mut b = [0u64; ROOM];

@@ -1,33 +1,25 @@
 -- Two automata side by side in one table: the loops that fill it, and the bounds and the bits of the sum.
-use mathlib.Core.Path.{◌≡◌, refl, sym, ap, ◌∙◌}
+use mathlib.Core.Path.{◌≡◌, sym, ◌∙◌}
 use mathlib.Core.List.{List}
-use Prim.Native.Nat.{ℕ, ◌+◌, ◌-◌, ◌*◌, ◌^◌, ◌<◌, ◌≤◌}
-use native.Mathlib.Nat.{not-suc-le-zero}
-use native.Mathlib.Decide.{dec_lt}
+use Prim.Native.Nat.{ℕ, ◌+◌, ◌*◌, ◌^◌, ◌<◌, ◌≤◌}
 use native.Mathlib.Numerals.{add-one}
 use native.Mathlib.Omega.{arith}
-use lib.ListN.{length}
 use lib.Bits.{bit_xor}
 use Rattle.automata.specs.Minimal.{SameBits}
 use Rattle.automata.specs.Operations.{sum_of}
 use Rattle.automata.proofs.Below.{up_to}
 use Rattle.rows.specs.Row.{width}
-use Rattle.rows.specs.Table.{blocks, size, at, stored}
+use Rattle.rows.specs.Table.{blocks, at, stored}
 use Rattle.rows.specs.Beside.{beside}
 use Rattle.rows.specs.Machine.{auto, Bounded}
 use Rattle.rows.proofs.TableLaws.{length_stored, stored_same, stored_block, stored_row}
-use Rattle.rows.proofs.BesideLaws.{if_low, if_high}
 use Rattle.rows.proofs.DirectSum.{pair_lt, beside_lt, beside_bits}
-use Rattle.direct_sum.specs.Filled.{Joined, Filled, ChangedUpTo}
+use Rattle.direct_sum.specs.Filled.{Joined, Filled}
 use Rattle.direct_sum.proofs.Filling.{filled_bits}
-use Rattle.direct_sum.proofs.Changing.{up_to_step}
 
 -- ---- one block
 
 module _ (l n : ℕ) (u t : List ℕ) where
-  pub joined_start : length t ≡ size → Joined l n 0 u t t
-  joined_start h = record { others = λ x i p d. refl; low = λ i p. refl; high = λ j p. absurd (not-suc-le-zero p); size = h }
-
   pub joined_step : (j : ℕ) (s s' : List ℕ) (r : ℕ) → n + j < width → l < blocks → r ≡ at u l j * 2 ^ n → s' ≡ stored s l (n + j) r → Joined l n j u t s → Joined l n (j + 1) u t s'
   joined_step j s s' r h w hr e J = rw (e, add-one) (record {
     others = λ x i p d. stored_block s l (n + j) r x i h p (λ z. d (sym z)) ∙ J.others x i p d;
@@ -37,18 +29,6 @@ module _ (l n : ℕ) (u t : List ℕ) where
         (stored_same s l (n + j) r J.size w h ∙ hr);
     size = length_stored s l (n + j) r ∙ J.size;
   })
-
--- ---- block after block
-
-pub besides_step : (l n k : ℕ) (t u s s' : List ℕ) → n + k ≤ width → Joined l n k u s s' → ChangedUpTo l (n + k) (beside (at t) (at u) n) t s → ChangedUpTo (l + 1) (n + k) (beside (at t) (at u) n) t s'
-besides_step l n k t u s s' w J B = up_to_step (n + k) (beside (at t) (at u) n) t l s s' w J.others (λ i q. here i q (dec_lt i n)) J.size B
-  where
-    here : (i : ℕ) → i < n + k → Dec (i < n) → at s' l i ≡ beside (at t) (at u) n l i
-    here i q (yes z) = J.low i z ∙ B.rest l i (omega arith) (omega arith) ∙ sym (if_low i n (at t l i) (at u l (i - n) * 2 ^ n) z)
-    here i q (no z) = ap (at s' l) back ∙ J.high (i - n) (omega arith) ∙ sym (if_high i n (at t l i) (at u l (i - n) * 2 ^ n) (omega arith))
-      where
-        back : i ≡ n + (i - n)
-        back = omega arith
 
 -- ---- the sum
 

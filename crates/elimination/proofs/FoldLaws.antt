@@ -3,7 +3,6 @@ use mathlib.Core.Path.{◌≡◌, refl, sym, ap, ap₂, subst, ◌∙◌}
 use mathlib.Core.Bool.{Bool, true, false, ◌&&◌, cond}
 use mathlib.Core.List.{List}
 use Prim.Native.Nat.{ℕ, suc, ◌+◌, ◌<◌, ◌≤◌}
-use native.Mathlib.Nat.{not-suc-le-zero}
 use native.Mathlib.Numerals.{add-one}
 use native.Mathlib.Decide.{ℕ_discrete}
 use native.Mathlib.Omega.{arith}
@@ -21,13 +20,6 @@ pub record Folding (σ j l q x : ℕ) (t s : List ℕ) : Type 0 where
   pub folded : Folded σ (λ i. i < j) l q x t s
   pub above : (i : ℕ) → j ≤ i → cell σ s l i ≡ cell σ t l i
   pub base : (i : ℕ) → j ≤ i → i < σ → cell σ s 0 i ≡ cell σ t 0 i
-
-pub fold_start : (σ l q x : ℕ) (t : List ℕ) → Folding σ 0 l q x t t
-fold_start σ l q x t = record {
-  folded = record { rows = λ j h. absurd (not-suc-le-zero h); other = λ m i z g. refl; size = refl };
-  above = λ i h. refl;
-  base = λ i h g. refl;
-}
 
 -- u is x where row j of block 0 has bit q, and has no bit otherwise.
 fold_step : (σ j l q x : ℕ) (t s : List ℕ) (u : ℕ) → l < parts → j < σ → Room σ t → ((k : ℕ) → bit_of u k ≡ bits σ s 0 j q && bit_of x k)

@@ -66,9 +66,6 @@ folded_over l k q p g j tab t s h none e F =
 
 -- ---- the blocks
 
-pub blocks_start : (n p g : ℕ) (tab t : List ℕ) → length t ≡ size → FoldedBlocks 0 n p g tab t t
-blocks_start n p g tab t h = record { rows = λ M T l j z. absurd (not-suc-le-zero z); rest = λ l i h g. refl; size = h }
-
 pub blocks_step : (l n p g : ℕ) (tab t s s' : List ℕ) → n ≤ width → FoldedTo l n p g tab s s' → FoldedBlocks l n p g tab t s → FoldedBlocks (l + 1) n p g tab t s'
 blocks_step l n p g tab t s s' hn F B = rw add-one (record {
   rows = λ M T x j h w. up_to {Q = λ x. at s' x j ≡ product (g * 4) (at t x (pick (bit_of p) n j)) M} l

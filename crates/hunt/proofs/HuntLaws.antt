@@ -18,6 +18,7 @@ use Rattle.rows.specs.Machine.{auto_by}
 use Rattle.basis.specs.Basis.{cell, bits, Room}
 use Rattle.rows.proofs.BitLaws.{bit_none, bit_high}
 use Rattle.rows.proofs.ProductLaws.{bit_product}
+use Rattle.trail.specs.declared.Step.{Step}
 use Rattle.trail.specs.Trail.{trail_size, from_in, by_in, linked}
 use Rattle.trail.proofs.LinkLaws.{linked_length, linked_from, linked_by, linked_from_new, linked_by_new}
 use Rattle.elimination.specs.Echelon.{onto, rest}
@@ -32,7 +33,7 @@ use Rattle.hunt.specs.Hunt.{shared, Hunting, Stopped}
 
 -- ---- the initial row
 
-module _ (σ a : ℕ) (M : ℕ → ℕ → ℕ) (n i f : ℕ) (C C' : ℕ → ℕ → Bool) (c : ℕ → Bool) (b b' w : List ℕ) (d p v : ℕ) (P : Placed σ n 0 0 0 i C C' c b b' d p v) where
+module _ (σ a : ℕ) (M : ℕ → ℕ → ℕ) (n i f : ℕ) (C C' : ℕ → ℕ → Bool) (c : ℕ → Bool) (b b' : List ℕ) (w : List Step) (d p v : ℕ) (P : Placed σ n 0 0 0 i C C' c b b' d p v) where
   -- No product is done yet.
   nothing : ℕ → ℕ → ℕ → Bool
   nothing x j r = false
@@ -82,7 +83,7 @@ left_known σ n d p v b y low x hx e C F = let c = onto n (bit_of p) C (bit_of y
 
 -- ---- one pair
 
-module _ (σ a : ℕ) (M : ℕ → ℕ → ℕ) (n i f : ℕ) (b w : List ℕ) (d k l p v : ℕ) (H : Hunting σ a M n i f b w d k l p v) (hk : k < d) (hl : l < a) (y : ℕ) (hy : y ≡ product n (cell σ b 1 k) (M l)) where
+module _ (σ a : ℕ) (M : ℕ → ℕ → ℕ) (n i f : ℕ) (b : List ℕ) (w : List Step) (d k l p v : ℕ) (H : Hunting σ a M n i f b w d k l p v) (hk : k < d) (hl : l < a) (y : ℕ) (hy : y ≡ product n (cell σ b 1 k) (M l)) where
   abbrev C : ℕ → ℕ → Bool
   C = H.coef
 
@@ -110,7 +111,7 @@ module _ (σ a : ℕ) (M : ℕ → ℕ → ℕ) (n i f : ℕ) (b w : List ℕ) (
 
   -- A row is found, as x is left of it, and the trail has where it came from.
   module _ (hn : n ≤ width) (low : y < 2 ^ n) (x : ℕ) (hx : LeftOf σ p y b x) (some : 0 < x) where
-    abbrev w' : List ℕ
+    abbrev w' : List Step
     w' = linked w d k l
 
     bit : (q : ℕ) × (q < n) × (rest n (bit_of p) (bits σ b 0) (bit_of y) q ≡ true)
@@ -159,7 +160,7 @@ module _ (σ a : ℕ) (M : ℕ → ℕ → ℕ) (n i f : ℕ) (b w : List ℕ) (
         made' = with_row H.made k l c
 
 -- The next row, from its first letter.
-pub hunting_next : (σ a : ℕ) (M : ℕ → ℕ → ℕ) (n i f : ℕ) (b w : List ℕ) (d k p v : ℕ) → Hunting σ a M n i f b w d k a p v → Hunting σ a M n i f b w d (k + 1) 0 p v
+pub hunting_next : (σ a : ℕ) (M : ℕ → ℕ → ℕ) (n i f : ℕ) (b : List ℕ) (w : List Step) (d k p v : ℕ) → Hunting σ a M n i f b w d k a p v → Hunting σ a M n i f b w d (k + 1) 0 p v
 hunting_next σ a M n i f b w d k p v H = record {
   coef = H.coef;
   made = H.made;
@@ -172,5 +173,5 @@ hunting_next σ a M n i f b w d k p v H = record {
 }
 
 -- A row found is one of as many rows as a row has bits.
-pub stopped_bound : (a : ℕ) (M : ℕ → ℕ → ℕ) (n i f : ℕ) (w : List ℕ) (r x : ℕ) → Stopped a M n i f w r x → r < n
+pub stopped_bound : (a : ℕ) (M : ℕ → ℕ → ℕ) (n i f : ℕ) (w : List Step) (r x : ℕ) → Stopped a M n i f w r x → r < n
 stopped_bound a M n i f w r x H = omega (arith, independent_bound n H.count H.rows H.search.basis.free, H.inside.0)

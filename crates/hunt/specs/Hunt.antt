@@ -15,6 +15,7 @@ use Rattle.rows.specs.declared.Machine.{Machine}
 use Rattle.rows.specs.Row.{mask}
 use Rattle.rows.specs.Machine.{auto_by}
 use Rattle.basis.specs.Basis.{Room}
+use Rattle.trail.specs.declared.Step.{Step}
 use Rattle.trail.specs.Trail.{trail_size, from_in, by_in}
 use Rattle.elimination.specs.declared.Size.{Size}
 use Rattle.elimination.specs.Place.{Covered, Placed}
@@ -31,7 +32,7 @@ abbrev pub shared : ℕ → ℕ → ℕ → Bool
 shared n x y = xor_below n (λ j. bit_of x j && bit_of y j)
 
 -- The coefficients and the products done are in no table: `coef` and `made` name them.
-pub record Hunting (σ a : ℕ) (M : ℕ → ℕ → ℕ) (n i f : ℕ) (b w : List ℕ) (d k l p v : ℕ) : Type 0 where
+pub record Hunting (σ a : ℕ) (M : ℕ → ℕ → ℕ) (n i f : ℕ) (b : List ℕ) (w : List Step) (d k l p v : ℕ) : Type 0 where
   pub coef : ℕ → ℕ → Bool
   pub made : ℕ → ℕ → ℕ → Bool
   pub search : SearchIn σ a M n i f b coef (from_in w) (by_in w) made d k l p
@@ -42,7 +43,7 @@ pub record Hunting (σ a : ℕ) (M : ℕ → ℕ → ℕ) (n i f : ℕ) (b w : L
   pub none : (r : ℕ) → r < d → accepted σ n b f r ≡ false
 
 -- The row is not added to b: the rows found, with this one, their basis and the products done are on paper.
-pub record Stopped (a : ℕ) (M : ℕ → ℕ → ℕ) (n i f : ℕ) (w : List ℕ) (r x : ℕ) : Type 0 where
+pub record Stopped (a : ℕ) (M : ℕ → ℕ → ℕ) (n i f : ℕ) (w : List Step) (r x : ℕ) : Type 0 where
   pub pivots : ℕ → Bool
   pub rows : ℕ → ℕ → Bool
   pub base : ℕ → ℕ → Bool
@@ -57,12 +58,12 @@ pub record Stopped (a : ℕ) (M : ℕ → ℕ → ℕ) (n i f : ℕ) (w : List �
   pub found : shared n x f ≡ true
   pub first : (q : ℕ) → q < r → xor_below n (λ j. rows q j && bit_of f j) ≡ false
 
-abbrev pub Hunted : ℕ → ℕ → (ℕ → ℕ → ℕ) → ℕ → ℕ → ℕ → List ℕ → List ℕ → ℕ → ℕ → ℕ → Hunt → Type 0
+abbrev pub Hunted : ℕ → ℕ → (ℕ → ℕ → ℕ) → ℕ → ℕ → ℕ → List ℕ → List Step → ℕ → ℕ → ℕ → Hunt → Type 0
 Hunted σ a M n i f b w d k l (Continue s) = Hunting σ a M n i f b w s.count k l (mask s.pivots) (mask s.used) × (d ≤ s.count)
 Hunted σ a M n i f b w d k l (Break x) = Stopped a M n i f w x.number (mask x.row)
 
 -- Every pair is done, or the search stopped.
-abbrev pub Ended : ℕ → ℕ → (ℕ → ℕ → ℕ) → ℕ → ℕ → ℕ → List ℕ → List ℕ → Hunt → Type 0
+abbrev pub Ended : ℕ → ℕ → (ℕ → ℕ → ℕ) → ℕ → ℕ → ℕ → List ℕ → List Step → Hunt → Type 0
 Ended σ a M n i f b w (Continue s) = Hunting σ a M n i f b w s.count s.count 0 (mask s.pivots) (mask s.used)
 Ended σ a M n i f b w (Break x) = Stopped a M n i f w x.number (mask x.row)
 
@@ -72,11 +73,11 @@ pub record Started (σ n i : ℕ) (b b' : List ℕ) (d p v : ℕ) : Type 0 where
   pub made : ℕ → Bool
   pub placed : Placed σ n 0 0 0 i coef coef' made b b' d p v
 
-abbrev pub HuntingIn : ℕ → List ℕ → List ℕ → Machine → List ℕ → List ℕ → Size → ℕ → ℕ → Type 0
+abbrev pub HuntingIn : ℕ → List ℕ → List ℕ → Machine → List ℕ → List Step → Size → ℕ → ℕ → Type 0
 HuntingIn σ bs cs m b w s k l = Hunting σ m.letters (beside_of bs cs) m.states (mask m.initial) (mask m.finals) b w s.count k l (mask s.pivots) (mask s.used)
 
-abbrev pub HuntedIn : ℕ → List ℕ → List ℕ → Machine → List ℕ → List ℕ → ℕ → ℕ → ℕ → Hunt → Type 0
+abbrev pub HuntedIn : ℕ → List ℕ → List ℕ → Machine → List ℕ → List Step → ℕ → ℕ → ℕ → Hunt → Type 0
 HuntedIn σ bs cs m b w d k l r = Hunted σ m.letters (beside_of bs cs) m.states (mask m.initial) (mask m.finals) b w d k l r
 
-abbrev pub EndedIn : ℕ → List ℕ → List ℕ → Machine → List ℕ → List ℕ → Hunt → Type 0
+abbrev pub EndedIn : ℕ → List ℕ → List ℕ → Machine → List ℕ → List Step → Hunt → Type 0
 EndedIn σ bs cs m b w r = Ended σ m.letters (beside_of bs cs) m.states (mask m.initial) (mask m.finals) b w r

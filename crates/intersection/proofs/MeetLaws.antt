@@ -22,18 +22,21 @@ use Rattle.rows.proofs.BesideLaws.{if_low, if_high}
 use Rattle.minimisation.specs.Minimises.{Minimises}
 use Rattle.record.specs.Record.{letters_of, automaton_of, language_of}
 use Rattle.record.specs.Outcome.{Outcome, refused, wrote, answer_of, answer_in, buffer_in}
-use Rattle.record.specs.declared.Written.{Written}
-use Rattle.record.specs.declared.Written.TheVariants.{Refused}
+use Rattle.std.specs.Prelude.{Result, Err}
+use Rattle.record.specs.Rules.{number_of}
+use Rattle.record.specs.declared.Rule.{Rule}
+use Rattle.record.specs.declared.Rule.TheVariants.{Product, Dimension}
+use Rattle.record.specs.declared.Refusal.{Refusal}
 use Rattle.record.specs.Claims.{Operands}
 use Rattle.operands.specs.Meant.{blank_of}
 use Rattle.operands.specs.Operands.{pair_of}
-use Rattle.operands.specs.declared.Pair.TheVariants.{Refused as Bad}
 use Rattle.operands.proofs.MeantLaws.{SameFor, writes_blank}
+use Rattle.operands.proofs.PairLaws.{pair_refused}
 use Rattle.record.proofs.Numbers.{not_among}
 use Rattle.results.specs.Results.{result_of, Limits}
 use Rattle.results.specs.Built.{Built}
 use Rattle.results.proofs.ResultLaws.{result_among, limits_of, Promises, Service, service_of}
-use Rattle.results.proofs.Passed.{sizes, pair_wrote, pair_refused, pair_passed}
+use Rattle.results.proofs.Passed.{sizes, pair_wrote, unnamed_pair, pair_passed}
 use Rattle.results.proofs.BuiltLaws.{built_same}
 use Rattle.intersection.specs.Meet.{max_product, crossing, meet_outcome, DimensionProduct, Small, Meets}
 
@@ -55,9 +58,9 @@ module _ (bs cs : List ℕ) where
 
   -- ---- the cases of the outcome
 
-  pub meet_refused : (room number which place : ℕ) → pair_of bs cs ≡ Bad number which place → meet_outcome bs cs room ≡ refused number which place
+  pub meet_refused : (room : ℕ) {r : Refusal} → Err r ≡ pair_of bs cs → meet_outcome bs cs room ≡ refused r.rule r.record r.place
   unfolding meet_outcome
-  meet_refused room number which place e = rw e
+  meet_refused room e = pair_refused bs cs _ e
 
   module _ (room : ℕ) where
     abbrev result : Outcome
@@ -68,11 +71,11 @@ module _ (bs cs : List ℕ) where
     passed p = pair_passed bs cs (crossing product result) p
 
     module _ (p : Operands bs cs) (d : ℕ) (e : d ≡ product) where
-      pub meet_over : max_product < d → meet_outcome bs cs room ≡ refused 10 0 d
-      meet_over h = passed p ∙ ap (λ x. crossing x result) (sym e) ∙ if_low max_product d (refused 10 0 d) result h
+      pub meet_over : max_product < d → meet_outcome bs cs room ≡ refused Product 0 d
+      meet_over h = passed p ∙ ap (λ x. crossing x result) (sym e) ∙ if_low max_product d (refused Product 0 d) result h
 
       meet_within : d ≤ max_product → meet_outcome bs cs room ≡ result
-      meet_within h = passed p ∙ ap (λ x. crossing x result) (sym e) ∙ if_high max_product d (refused 10 0 d) result h
+      meet_within h = passed p ∙ ap (λ x. crossing x result) (sym e) ∙ if_high max_product d (refused Product 0 d) result h
 
   -- ---- the claims
 
@@ -98,7 +101,7 @@ module _ (bs cs : List ℕ) where
     within d e h k D = omega (arith, unique k D)
 
     -- Past row 10 the product is not over the limit.
-    small : (room : ℕ) (o : Outcome) → ((k : ℕ) → o ≡ refused 10 0 k → ⊥) → meet_outcome bs cs room ≡ o → Small bs cs
+    small : (room : ℕ) (o : Outcome) → ((k : ℕ) → o ≡ refused Product 0 k → ⊥) → meet_outcome bs cs room ≡ o → Small bs cs
     small room o other e k D = go (dec_lt max_product product)
       where
         go : Dec (max_product < product) → k ≤ max_product
@@ -109,13 +112,13 @@ module _ (bs cs : List ℕ) where
   unfolding meet_outcome
   meet_wrote room out e = pair_wrote bs cs (crossing product (result room)) out e
 
-  meet_passed : (room number k : ℕ) → meet_outcome bs cs room ≡ refused number 0 k → Operands bs cs
+  meet_passed : (room : ℕ) (rule : Rule) (k : ℕ) → meet_outcome bs cs room ≡ refused rule 0 k → Operands bs cs
   unfolding meet_outcome
-  meet_passed room number k e = pair_refused bs cs (crossing product (result room)) number k e
+  meet_passed room rule k e = unnamed_pair bs cs (crossing product (result room)) rule k e
 
-  meet_products : (room : ℕ) (r : Written) → r ≡ answer_of (meet_outcome bs cs room) → Limits 10 max_product (Operands bs cs) (DimensionProduct bs cs) r
-  meet_products room = limits_of 10 max_product product (result room) (meet_outcome bs cs room) (Operands bs cs) (DimensionProduct bs cs)
-      (passed room) (meet_passed room 10) (λ k. not_among (11 ∷ 12 ∷ []) _ (result_among (letters_of bs) (meet_of (automaton_of bs) (automaton_of cs)) room) 10 0 k refl)
+  meet_products : (room : ℕ) (r : Result ℕ Refusal) → r ≡ answer_of (meet_outcome bs cs room) → Limits Product max_product (Operands bs cs) (DimensionProduct bs cs) r
+  meet_products room = limits_of Product max_product product (result room) (meet_outcome bs cs room) (Operands bs cs) (DimensionProduct bs cs)
+      (passed room) (meet_passed room Product) (λ k. not_among (11 ∷ 12 ∷ []) _ (result_among (letters_of bs) (meet_of (automaton_of bs) (automaton_of cs)) room) Product 0 k refl)
       dimensions unique
 
   meet_service : (buf : List ℕ) → Service (letters_of bs) (intersection (language_of bs) (language_of cs)) (Operands bs cs × Small bs cs) buf (meet_outcome bs cs (length buf))
@@ -123,27 +126,27 @@ module _ (bs cs : List ℕ) where
       (λ w ow. sym (accepts_meet (automaton_of bs) (automaton_of cs) w)) (Operands bs cs × Small bs cs) (λ p. sizes bs p.0.0) buf (meet_outcome bs cs (length buf))
       (λ p. meet_within (length buf) p.0 product refl (p.1 product (dimensions p.0))) writes refuses
     where
-      pair : (o : Outcome) → meet_outcome bs cs (length buf) ≡ o → ((k : ℕ) → o ≡ refused 10 0 k → ⊥) → Operands bs cs → Operands bs cs × Small bs cs
+      pair : (o : Outcome) → meet_outcome bs cs (length buf) ≡ o → ((k : ℕ) → o ≡ refused Product 0 k → ⊥) → Operands bs cs → Operands bs cs × Small bs cs
       pair o e other p = (p, small p (length buf) o other e)
 
       writes : (out : List ℕ) → meet_outcome bs cs (length buf) ≡ wrote out → Operands bs cs × Small bs cs
       writes out e = pair (wrote out) e (λ k q. let z : ◌≡◌ {A = ℕ} 0 1 = cc in omega arith) (meet_wrote (length buf) out e)
 
-      refuses : (k : ℕ) → meet_outcome bs cs (length buf) ≡ refused 11 0 k → Operands bs cs × Small bs cs
-      refuses k e = pair (refused 11 0 k) e (λ j q. let z : ◌≡◌ {A = ℕ} 11 10 = cc in omega arith) (meet_passed (length buf) 11 k e)
+      refuses : (k : ℕ) → meet_outcome bs cs (length buf) ≡ refused Dimension 0 k → Operands bs cs × Small bs cs
+      refuses k e = pair (refused Dimension 0 k) e (λ j q. let z : Dimension ≡ Product = cc in let n = ap number_of z in omega arith) (meet_passed (length buf) Dimension k e)
 
   -- Row 10 beside the promises that every operation has.
-  abbrev Promised : List ℕ → List ℕ → Written → Type 0
+  abbrev Promised : List ℕ → List ℕ → Result ℕ Refusal → Type 0
   Promised buf exit r = (r ≡ answer_in (meet_outcome bs cs) buf) × ((exit ≡ buffer_in (meet_outcome bs cs) buf) × Meets bs cs exit r)
 
-  with_products : (buf exit : List ℕ) (r : Written)
+  with_products : (buf exit : List ℕ) (r : Result ℕ Refusal)
       → Promises (letters_of bs) (intersection (language_of bs) (language_of cs)) (Operands bs cs × Small bs cs) (meet_outcome bs cs (length buf)) buf exit r → Promised buf exit r
   with_products buf exit r p = (p.0, (p.1.0, record { products = meet_products (length buf) r p.0; gives = p.1.1 }))
 
-  pub meet_refuses : (buf : List ℕ) (number which place : ℕ) (r : Written) → meet_outcome bs cs (length buf) ≡ refused number which place → r ≡ Refused number which place → Promised buf buf r
-  meet_refuses buf number which place r e answer = with_products buf buf r ((meet_service buf).0 number which place r e answer)
+  pub meet_refuses : (buf : List ℕ) (f : Refusal) (r : Result ℕ Refusal) → meet_outcome bs cs (length buf) ≡ refused f.rule f.record f.place → r ≡ Err f → Promised buf buf r
+  meet_refuses buf f r e answer = with_products buf buf r ((meet_service buf).0 f r e answer)
 
-  pub meet_gives : (buf t : List ℕ) (m : Machine) (exit : List ℕ) (r : Written) → Operands bs cs × Small bs cs → Built (letters_of bs) (intersection (language_of bs) (language_of cs)) t m
+  pub meet_gives : (buf t : List ℕ) (m : Machine) (exit : List ℕ) (r : Result ℕ Refusal) → Operands bs cs × Small bs cs → Built (letters_of bs) (intersection (language_of bs) (language_of cs)) t m
       → r ≡ answer_in (result_of m.letters (automaton_in t m)) buf → exit ≡ buffer_in (result_of m.letters (automaton_in t m)) buf → Promised buf exit r
   meet_gives buf t m exit r p B answer buffer = with_products buf exit r ((meet_service buf).1 t m exit r p B answer buffer)
 

@@ -13,8 +13,8 @@ ghost use Rattle.results.specs.Built.{held_words, Built};
 ghost use Rattle.intersection.specs.Meet.{meet_outcome, Meets};
 ghost use Rattle.intersection.specs.Kron.{kron, crossed};
 
-use operands::{BLANK, Pair};
-use record::Written;
+use operands::BLANK;
+use record::{Refusal, Rule};
 use rows::{Machine, Row, Table};
 
 const MAX_PRODUCT: usize = 64;
@@ -77,45 +77,26 @@ fn product(t: &Table, g: Machine, u: &Table, h: Machine, s: &mut Table) -> Machi
     }
 }
 
-// The meet of two records as they are meant: each stands for itself.
-fn meet_meant(first: &[u8], second: &[u8], out: &mut [u8]) -> Written
-    ensures answer { result ≡ answer_in (meet_outcome first.now second.now) out.old }
-    ensures buffer { out.new ≡ buffer_in (meet_outcome first.now second.now) out.old }
-    ensures claims { Meets first.now second.now out.new result }
-{
-    let p = operands::check_pair(first, second);
-    let Pair::Both = p else {
-        return results::refuse(p);
-    };
-    let mut t = [0u64; 512];
-    let mut u = [0u64; 512];
-    let mut s = [0u64; 512];
-    let g = minimal::minimal_form(first, &mut t);
-    let h = minimal::minimal_form(second, &mut u);
-    let d = g.states * h.states;
-    if MAX_PRODUCT < d {
-        return Written::Refused {
-            number: 10,
-            record: 0,
-            place: d,
-        };
-    }
-    let m = product(&t, g, &u, h, &mut s);
-    results::finish(&mut s, m, &mut t, out)
-}
-
 // Writes the minimal record of the words that both records accept; a second record of 0 bytes is a blank, the machine with no states over
 // the first one's letters. `claims`: as for operations::sum; besides, refusal 10 comes exactly where the records pass and the product of
 // their dimensions is over 64, its place the product, and refusal 11 only where that product is not.
-pub fn meet(first: &[u8], second: &[u8], out: &mut [u8]) -> Written
+pub fn meet(first: &[u8], second: &[u8], out: &mut [u8]) -> Result<usize, Refusal>
     ensures answer { result ≡ answer_in (as_meant meet_outcome first.now second.now) out.old }
     ensures buffer { out.new ≡ buffer_in (as_meant meet_outcome first.now second.now) out.old }
     ensures claims { as_meant Meets first.now second.now out.new result }
 {
-    if second.len() == 0 {
-        let mut b = [0u8; BLANK];
-        operands::blank(first, &mut b);
-        return meet_meant(first, &b, out);
+    let mut room = [0; BLANK];
+    let right = operands::meant(first, second, &mut room);
+    operands::check_pair(first, right)?;
+    let mut t = [0u64; 512];
+    let mut u = [0u64; 512];
+    let mut s = [0u64; 512];
+    let g = minimal::minimal_form(first, &mut t);
+    let h = minimal::minimal_form(right, &mut u);
+    let d = g.states * h.states;
+    if MAX_PRODUCT < d {
+        return Err(Rule::Product.of(0, d));
     }
-    meet_meant(first, second, out)
+    let m = product(&t, g, &u, h, &mut s);
+    results::finish(&mut s, m, &mut t, out)
 }

@@ -10,8 +10,8 @@ use Rattle.record.specs.Outcome.{Outcome, refused, wrote}
 use Rattle.record.proofs.Numbers.{Among, fit_among}
 use Rattle.operands.proofs.Numbers.{pair_numbers, pair_among}
 use Rattle.compare.specs.Compare.{difference_of, word_outcome, compare_outcome, side_of, compared_as, compare_answer}
-use Rattle.compare.specs.declared.Side.{Side}
-use Rattle.compare.specs.declared.Side.TheVariants.{First, Second}
+use Rattle.verdict.specs.declared.Side.{Side}
+use Rattle.verdict.specs.declared.Side.TheVariants.{First, Second}
 use Rattle.compare.specs.declared.Compared.{Compared}
 use Rattle.compare.specs.declared.Compared.TheVariants.{Differs}
 use Rattle.replies.specs.Reply.{side_number, of_compared, verdict_in, compared_in}

@@ -1,16 +1,16 @@
 // Products of a row with the matrices of two well-formed records side by side, taken from the records' bytes.
 #![tactic(auto)]
 
-ghost use Rattle.std.specs.Prelude.{◌≡◌, true, ◌+◌, ◌*◌, ◌/◌, ◌^◌, ◌<◌, length};
+ghost use Rattle.std.specs.Prelude.{◌≡◌, true, ℕ, ◌+◌, ◌*◌, ◌/◌, ◌^◌, ◌<◌, ◌≤◌, length};
 ghost use Rattle.std.specs.Int.Bits.{bit_xor};
-ghost use Rattle.rows.specs.Row.{width, mask};
+ghost use Rattle.rows.specs.Row.{width, mask, mask_at};
 ghost use Rattle.rows.specs.Table.{blocks};
 ghost use Rattle.rows.specs.Product.{product};
 ghost use Rattle.rows.specs.Beside.{beside};
 ghost use Rattle.record.specs.Record.{states_of, letters_of, row_at, WellFormed};
 ghost use Rattle.products.specs.Lines.{Both, Single};
 
-use kernels::{Line, Two};
+use kernels::Line;
 use products::Three;
 use rows::Row;
 
@@ -56,16 +56,35 @@ pub fn times_singles(first: &[u8], second: &[u8], n: usize, j: usize, l: usize, 
     rows::xor(y, rows::moved(z, n))
 }
 
+// The row x times the matrices of N letters from l on of two records side by side, in one pass over the bits of each half.
+pub fn times_each_both<const N: usize>(first: &[u8], second: &[u8], l: usize, x: Row) -> [Row; N]
+    requires { WellFormed first.now × WellFormed second.now × (letters_of second.now ≡ letters_of first.now) × (l + N ≤ letters_of first.now) × (mask x < 2 ^ (states_of first.now + states_of second.now)) }
+    ensures { (k : ℕ) → k < N → mask_at result k ≡ product (states_of first.now + states_of second.now) (mask x) (beside (row_at first.now) (row_at second.now) (states_of first.now) (l + k)) }
+{
+    let n = record::size(first[5]);
+    let p = split(n, x);
+    let mut y: [Row; N] = products::times_each(first, l, p.low);
+    let z: [Row; N] = products::times_each(second, l, p.high);
+    for k in 0..N {
+        y[k] = rows::xor(y[k], rows::moved(z[k], n));
+    }
+    y
+}
+
 // The row x times the matrix of letter l of two records side by side.
 pub fn times_pair(first: &[u8], second: &[u8], l: usize, x: Row) -> Row
     requires { WellFormed first.now × WellFormed second.now × (letters_of second.now ≡ letters_of first.now) × (l < letters_of first.now) × (mask x < 2 ^ (states_of first.now + states_of second.now)) }
     ensures { mask result ≡ product (states_of first.now + states_of second.now) (mask x) (beside (row_at first.now) (row_at second.now) (states_of first.now) l) }
 {
-    let n = record::size(first[5]);
-    let p = split(n, x);
-    let y = products::times_one(first, l, p.low);
-    let z = products::times_one(second, l, p.high);
-    rows::xor(y, rows::moved(z, n))
+    let [y]: [Row; 1] = times_each_both(first, second, l, x);
+    y
+}
+
+// Two rows.
+#[derive(Clone, Copy)]
+pub struct Two {
+    pub first: Row,
+    pub second: Row,
 }
 
 // The row x times the matrices of both letters of two records side by side.
@@ -73,13 +92,10 @@ pub fn times_two_both(first: &[u8], second: &[u8], x: Row) -> Two
     requires { WellFormed first.now × WellFormed second.now × (letters_of second.now ≡ letters_of first.now) × (letters_of first.now ≡ 2) × (mask x < 2 ^ (states_of first.now + states_of second.now)) }
     ensures { (mask result.first ≡ product (states_of first.now + states_of second.now) (mask x) (beside (row_at first.now) (row_at second.now) (states_of first.now) 0)) × (mask result.second ≡ product (states_of first.now + states_of second.now) (mask x) (beside (row_at first.now) (row_at second.now) (states_of first.now) 1)) }
 {
-    let n = record::size(first[5]);
-    let p = split(n, x);
-    let y = products::times_two(first, 0, p.low);
-    let z = products::times_two(second, 0, p.high);
+    let [y, z]: [Row; 2] = times_each_both(first, second, 0, x);
     Two {
-        first: rows::xor(y.first, rows::moved(z.first, n)),
-        second: rows::xor(y.second, rows::moved(z.second, n)),
+        first: y,
+        second: z,
     }
 }
 
@@ -88,14 +104,11 @@ pub fn times_three_both(first: &[u8], second: &[u8], x: Row) -> Three
     requires { WellFormed first.now × WellFormed second.now × (letters_of second.now ≡ letters_of first.now) × (letters_of first.now ≡ 3) × (mask x < 2 ^ (states_of first.now + states_of second.now)) }
     ensures { (mask result.first ≡ product (states_of first.now + states_of second.now) (mask x) (beside (row_at first.now) (row_at second.now) (states_of first.now) 0)) × (mask result.second ≡ product (states_of first.now + states_of second.now) (mask x) (beside (row_at first.now) (row_at second.now) (states_of first.now) 1)) × (mask result.third ≡ product (states_of first.now + states_of second.now) (mask x) (beside (row_at first.now) (row_at second.now) (states_of first.now) 2)) }
 {
-    let n = record::size(first[5]);
-    let p = split(n, x);
-    let y = products::times_three(first, p.low);
-    let z = products::times_three(second, p.high);
+    let [y, z, w]: [Row; 3] = times_each_both(first, second, 0, x);
     Three {
-        first: rows::xor(y.first, rows::moved(z.first, n)),
-        second: rows::xor(y.second, rows::moved(z.second, n)),
-        third: rows::xor(y.third, rows::moved(z.third, n)),
+        first: y,
+        second: z,
+        third: w,
     }
 }
 
@@ -110,11 +123,9 @@ pub fn times_both(first: &[u8], second: &[u8], x: Row, s: &mut Line)
     let mut t = [0u64; 8];
     products::times_all(first, p.low, s);
     products::times_all(second, p.high, &mut t);
-    let mut l = 0;
-    while l < a {
+    for l in 0..a {
         let y = kernels::pick(&t, l);
         let z = rows::moved(y, n);
         kernels::put(s, l, rows::xor(kernels::pick(s, l), z));
-        l += 1;
     }
 }

@@ -1,18 +1,22 @@
 -- Lines of products: one more letter; and the products of two records side by side, from those of each.
-use mathlib.Core.Path.{◌≡◌, refl, sym, ap₂, ◌∙◌}
+use mathlib.Core.Path.{◌≡◌, refl, sym, ap₂, subst, ◌∙◌}
 use mathlib.Core.List.{List}
-use Prim.Native.Nat.{ℕ, ◌+◌, ◌*◌, ◌/◌, ◌^◌, ◌≤◌, ◌<◌}
+use Prim.Native.Nat.{ℕ, ◌+◌, ◌-◌, ◌*◌, ◌/◌, ◌^◌, ◌≤◌, ◌<◌}
 use native.Mathlib.Nat.{not-suc-le-zero}
 use native.Mathlib.Numerals.{add-one}
+use native.Mathlib.Decide.{dec_lt}
 use native.Mathlib.Omega.{arith}
 use lib.Bits.{bit_xor}
 use lib.ListN.{length, get_or, set, length-set}
 use lib.Seq.{get_or-set_same, get_or-set_other}
 use Rattle.automata.proofs.Below.{up_to}
+use Rattle.rows.specs.declared.Row.{Row}
+use Rattle.rows.specs.Row.{mask, mask_at}
 use Rattle.rows.specs.Table.{blocks}
 use Rattle.rows.specs.Product.{product}
 use Rattle.rows.specs.Beside.{beside}
-use Rattle.kernels.proofs.LineLaws.{line_step}
+use Rattle.kernels.specs.Products.{Put}
+use Rattle.rows.proofs.MaskLaws.{mask_at_same, mask_at_other}
 use Rattle.rows.proofs.BesideLaws.{product_beside}
 use Rattle.record.specs.Record.{states_of, letters_of, row_at, WellFormed}
 use Rattle.products.specs.Lines.{Upto, Letters, Both}
@@ -24,9 +28,13 @@ use Rattle.products.proofs.PairLaws.{product_below}
 pub upto_none : (M : ℕ → ℕ → ℕ) (n x : ℕ) (s : List ℕ) → length s ≡ blocks → Upto 0 M n x s
 upto_none M n x s h = (h, λ l z. absurd (not-suc-le-zero z))
 
--- The product of letter l, put at its place.
-pub upto_step : (l k : ℕ) (M : ℕ → ℕ → ℕ) (n x : ℕ) (s : List ℕ) {s' : List ℕ} {v : ℕ} → k ≡ l + 1 → l < blocks → v ≡ product n x (M l) → s' ≡ set s l v → Upto l M n x s → Upto k M n x s'
-upto_step l k M n x s {v = v} c h e g u = rw (g, c, add-one) (line_step l (λ i. product n x (M i)) s v h e u)
+-- The products of n letters from l on, put at their places.
+pub upto_put : {l n : ℕ} {x : List Row} {s s' : List ℕ} (M : ℕ → ℕ → ℕ) (m z : ℕ) → ((k : ℕ) → k < n → mask_at x k ≡ product m z (M (l + k))) → Put l n x s s' → Upto l M m z s → Upto (l + n) M m z s'
+upto_put {l} {n} {s' = s'} M m z made p u = (p.size ∙ u.0, λ i h. go i h (dec_lt i l))
+  where
+    go : (i : ℕ) → i < l + n → Dec (i < l) → get_or s' i 0 ≡ product m z (M i)
+    go i h (yes g) = p.lower i g ∙ u.1 i g
+    go i h (no g) = subst (λ j. get_or s' j 0 ≡ product m z (M j)) (omega arith) (p.rows (i - l) (omega arith) ∙ made (i - l) (omega arith))
 
 -- ---- two lines merged
 
@@ -46,6 +54,24 @@ merged_step l n s₀ t s {v = v} h ea eb ec ev e m = rw (e, add-one) (record {
       (λ k z. get_or-set_other s l k v 0 (omega arith) ∙ m.done k z)
       (get_or-set_same s l v 0 (omega (arith, m.size)) ∙ ev ∙ ap₂ bit_xor (ea ∙ m.rest l (omega arith)) (ec ∙ rw eb));
   rest = λ k z. get_or-set_other s l k v 0 (omega arith) ∙ m.rest k (omega arith);
+})
+
+-- The same for rows: the first k of y are those of y₀ and z side by side.
+pub record Joined (k n : ℕ) (y₀ z y : List Row) : Type 0 where
+  pub size : length y ≡ length y₀
+  pub done : (j : ℕ) → j < k → mask_at y j ≡ bit_xor (mask_at y₀ j) (mask_at z j * 2 ^ n)
+  pub rest : (j : ℕ) → k ≤ j → mask_at y j ≡ mask_at y₀ j
+
+pub joined_start : (n : ℕ) (y₀ z : List Row) → Joined 0 n y₀ z y₀
+joined_start n y₀ z = record { size = refl; done = λ j h. absurd (not-suc-le-zero h); rest = λ j h. refl }
+
+pub joined_step : (k n : ℕ) (y₀ z y : List Row) {c : ℕ} (v : Row) → k < length y₀ → c ≡ mask_at z k * 2 ^ n → mask v ≡ bit_xor (mask_at y k) c → Joined k n y₀ z y → Joined (k + 1) n y₀ z (set y k v)
+joined_step k n y₀ z y v h ec ev m = rw add-one (record {
+  size = length-set y k v ∙ m.size;
+  done = up_to k
+      (λ j g. mask_at_other y k j v (omega arith) ∙ m.done j g)
+      (mask_at_same y k v (omega (arith, m.size)) ∙ ev ∙ ap₂ bit_xor (m.rest k (omega arith)) ec);
+  rest = λ j g. mask_at_other y k j v (omega arith) ∙ m.rest j (omega arith);
 })
 
 -- ---- two records

@@ -7,6 +7,9 @@ ghost use Rattle.record.specs.Bytes.{number};
 ghost use Rattle.record.specs.Record.{max_states, max_letters, row_bytes, header, initial_at, rows_at, states_of, letters_of, length_of, front_of, need_of, stray_from, check_of, WellFormed, head_of, encode};
 ghost use Rattle.record.specs.Rules.{number_of, fault, refusal, refusal_of};
 
+mod lent;
+
+pub use lent::{Pair, Record};
 use rows::Row;
 
 pub const VERSION: usize = 1;

@@ -21,8 +21,8 @@ use Rattle.testing.specs.declared.Tested.{Tested}
 use Rattle.testing.specs.declared.Tested.TheVariants.{Accepted, Rejected, Refused as NotTested}
 use Rattle.minimal.specs.declared.Minimised.{Minimised}
 use Rattle.minimal.specs.declared.Minimised.TheVariants.{Done as Minimal, Refused as NotMinimised}
-use Rattle.compare.specs.declared.Side.{Side}
-use Rattle.compare.specs.declared.Side.TheVariants.{First, Second}
+use Rattle.verdict.specs.declared.Side.{Side}
+use Rattle.verdict.specs.declared.Side.TheVariants.{First, Second}
 use Rattle.compare.specs.declared.Compared.{Compared}
 use Rattle.compare.specs.declared.Compared.TheVariants.{Same, Differs, Refused as NotCompared}
 

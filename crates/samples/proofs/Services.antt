@@ -30,7 +30,7 @@ use Rattle.testing.specs.Testing.{test_of}
 use Rattle.minimal.specs.Minimal.{minimal_bytes, minimal_outcome}
 use Rattle.minimal.proofs.MinimalLaws.{minimal_bytes_lem}
 use Rattle.compare.specs.Compare.{side_of, difference_of, compare_outcome, compared_as}
-use Rattle.compare.specs.declared.Side.{Side}
+use Rattle.verdict.specs.declared.Side.{Side}
 use Rattle.compare.specs.declared.Compared.TheVariants.{Differs}
 use Rattle.compare.proofs.CompareLaws.{outcome_word}
 use Rattle.compare.proofs.Claims.{side_named}

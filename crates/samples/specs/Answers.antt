@@ -21,7 +21,7 @@ use Rattle.testing.specs.declared.Tested.TheVariants.{Accepted, Rejected}
 use Rattle.minimal.specs.Minimal.{minimal_outcome, minimised_as}
 use Rattle.minimal.specs.declared.Minimised.{Minimised}
 use Rattle.compare.specs.Compare.{compare_outcome, compare_answer}
-use Rattle.compare.specs.declared.Side.{Side}
+use Rattle.verdict.specs.declared.Side.{Side}
 use Rattle.compare.specs.declared.Compared.TheVariants.{Differs, Refused as Withheld}
 use Rattle.operations.specs.Operations.{sum_outcome, complement_outcome, mirror_outcome}
 use Rattle.intersection.specs.Meet.{meet_outcome}

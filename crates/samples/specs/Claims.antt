@@ -13,7 +13,7 @@ use Rattle.automata.specs.Cuts.{star}
 use Rattle.record.specs.Record.{states_of, letters_of, automaton_of, language_of}
 use Rattle.record.specs.Claims.{MinimalRecord}
 use Rattle.compare.specs.Compare.{Differ}
-use Rattle.compare.specs.declared.Side.{Side}
+use Rattle.verdict.specs.declared.Side.{Side}
 use Rattle.samples.specs.Languages.{Named, words_in}
 
 pub data Task : Type 0 where

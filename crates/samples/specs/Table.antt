@@ -6,7 +6,7 @@ use Rattle.std.specs.Prelude.{List, [], ◌∷◌, ◌++◌, ℕ, zero, suc, ◌
 use Rattle.automata.specs.WordList.{join_below}
 use Rattle.record.specs.Bytes.{all_bytes}
 use Rattle.record.specs.Record.{row_bytes, head_of}
-use Rattle.compare.specs.declared.Side.TheVariants.{Second}
+use Rattle.verdict.specs.declared.Side.TheVariants.{Second}
 use Rattle.catalogue.specs.Entries.{record_of}
 use Rattle.samples.specs.Languages.{entry, beginning, star, some, at_most_zero}
 use Rattle.samples.specs.Claims.{minimal, sum, meet, inverse, mirror, repetition, Claim, accepted, rejected, paths, speaks, gives, differ}

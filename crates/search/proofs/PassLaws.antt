@@ -11,6 +11,7 @@ use Rattle.basis.specs.Basis.{cell}
 use Rattle.lookup.specs.Lookup.{chosen, Kept}
 use Rattle.lookup.proofs.LookupLaws.{chosen_product}
 use Rattle.elimination.proofs.PlaceLaws.{left_of_lem}
+use Rattle.trail.specs.declared.Step.{Step}
 use Rattle.hunt.specs.Hunt.{Hunting}
 use Rattle.hunt.proofs.HuntLaws.{Known, left_known, hunting_old, hunting_next}
 
@@ -21,7 +22,7 @@ kept_known σ n d p v g y b hp low e = left_known σ n d p v b y low (bit_xor y 
     x : ℕ
     x = product (g * 4) y (chosen p (cell σ b 0))
 
-module _ (σ a : ℕ) (M : ℕ → ℕ → ℕ) (n i f : ℕ) (rows : (l j : ℕ) → l < a → j < n → M l j < 2 ^ n) (b w : List ℕ) (d p v : ℕ) where
+module _ (σ a : ℕ) (M : ℕ → ℕ → ℕ) (n i f : ℕ) (rows : (l j : ℕ) → l < a → j < n → M l j < 2 ^ n) (b : List ℕ) (w : List Step) (d p v : ℕ) where
   short : (k l : ℕ) → l < a → product n (cell σ b 1 k) (M l) < 2 ^ n
   short k l h = product_lt n n (cell σ b 1 k) (M l) (λ j. rows l j h)
 

@@ -7,6 +7,7 @@ ghost use Rattle.rows.specs.Row.{width, mask};
 ghost use Rattle.rows.specs.Product.{product};
 ghost use Rattle.basis.specs.Basis.{cell, Room};
 ghost use Rattle.lookup.specs.Lookup.{groups, Tabled, Kept};
+ghost use Rattle.trail.specs.declared.Step.{Step};
 ghost use Rattle.trail.specs.Trail.{trail_size};
 ghost use Rattle.record.specs.Record.{states_of};
 ghost use Rattle.products.specs.Lines.{Single};
@@ -171,8 +172,8 @@ fn pass_rows(
     s: Size,
     k: usize,
 ) -> usize
-    requires { Paired first.now second.now m × ((w : List ℕ) × HuntingIn stride first.now second.now m b.now w s k 0) × (k ≤ s.count) × (width ≤ stride) }
-    ensures { ((w : List ℕ) → HuntingIn stride first.now second.now m b.now w s k 0 → HuntingIn stride first.now second.now m b.now w s result 0) × (k ≤ result) × (result ≤ s.count) }
+    requires { Paired first.now second.now m × ((w : List Step) × HuntingIn stride first.now second.now m b.now w s k 0) × (k ≤ s.count) × (width ≤ stride) }
+    ensures { ((w : List Step) → HuntingIn stride first.now second.now m b.now w s k 0 → HuntingIn stride first.now second.now m b.now w s result 0) × (k ≤ result) × (result ≤ s.count) }
 {
     let mut tab = [0u64; 256];
     let g = lookup::fill(b, stride, 0, s.pivots, &mut tab);

@@ -13,7 +13,7 @@ ghost use Rattle.results.specs.Built.{held_words, Built};
 ghost use Rattle.star.specs.Star.{star_outcome, GivesStar};
 ghost use Rattle.star.specs.Renewed.{renewed, star_rows};
 
-use record::{Checked, Written};
+use record::{Refusal, Rule};
 use rows::{Machine, Row, Table};
 
 // The rows of letter l: where one of the n states is final, by the column f, its row gains r, which is the row of the new state n.
@@ -65,23 +65,16 @@ fn repeat(t: &mut Table, g: Machine) -> Machine
 // Writes the minimal record of the words that have an odd number of cuts into words of the record; the empty word has one, into none. A
 // record that accepts the empty word is refused. `claims`: row 14 comes exactly where a well-formed record accepts the empty word; where it
 // does not, as for operations::sum.
-pub fn star(bytes: &[u8], out: &mut [u8]) -> Written
+pub fn star(bytes: &[u8], out: &mut [u8]) -> Result<usize, Refusal>
     ensures answer { result ≡ answer_in (star_outcome bytes.now) out.old }
     ensures buffer { out.new ≡ buffer_in (star_outcome bytes.now) out.old }
     ensures claims { GivesStar bytes.now out.new result }
 {
-    let c = record::check(bytes);
-    let Checked::Good = c else {
-        return record::refused(c, 1);
-    };
+    record::check_as(bytes, 1)?;
     let mut s = [0u64; 512];
     let g = codec::read(bytes, &mut s);
     if rows::parity(g.initial, g.finals) {
-        return Written::Refused {
-            number: 14,
-            record: 1,
-            place: 0,
-        };
+        return Err(Rule::EmptyWord.of(1, 0));
     }
     let m = repeat(&mut s, g);
     let mut u = [0u64; 512];

@@ -26,14 +26,14 @@ use Rattle.rows.specs.Product.{product}
 use Rattle.rows.specs.Machine.{automaton_in, Valid}
 use Rattle.rows.proofs.BitLaws.{bit_none}
 use Rattle.rows.proofs.ProductLaws.{bit_product, product_lt}
-use Rattle.record.specs.declared.Checked.{Checked}
-use Rattle.record.specs.declared.Checked.TheVariants.{Good, Refused as Bad}
+use Rattle.std.specs.Prelude.{Ok, Err}
+use Rattle.record.specs.declared.Refusal.{Refusal}
+use Rattle.record.specs.Rules.{Check, refusal_of}
+use Rattle.record.proofs.Refusals.{same_error}
 use Rattle.record.specs.Record.{letters_of, check_of, WellFormed, automaton_of, language_of, record_accepts}
 use Rattle.record.specs.Held.{Holds}
 use Rattle.record.proofs.Held.{bits_held}
-use Rattle.testing.specs.Testing.{tested_of, test_of, Tests, Reached}
-use Rattle.testing.specs.declared.Tested.{Tested}
-use Rattle.testing.specs.declared.Tested.TheVariants.{Accepted, Refused}
+use Rattle.testing.specs.Testing.{Tested, tested_of, test_of, Tests, Reached}
 
 -- ---- the row reached
 
@@ -101,13 +101,17 @@ module _ (t : List ℕ) (m : Machine) (valid : Valid t m) where
 
 -- ---- the test
 
+told_tested : (c : Check) (accepted : Bool) {r : Refusal} → Err r ≡ refusal_of c 1 → tested_of c accepted ≡ Err r
+told_tested (Ok u) accepted e = let z : ◌≡◌ {A = ℕ} 0 1 = cc in absurd (omega arith)
+told_tested (Err f) accepted e = ap Err (sym (same_error e))
+
 module _ (bs w : List ℕ) where
-  pub test_refused : {number place : ℕ} → check_of bs ≡ Bad number place → test_of bs w ≡ Refused number 1 place
+  pub test_refused : {r : Refusal} → Err r ≡ refusal_of (check_of bs) 1 → test_of bs w ≡ Err r
   unfolding test_of
-  test_refused e = rw e
+  test_refused e = told_tested (check_of bs) (record_accepts bs w) e
 
   -- The machine that holds the record says whether the word is accepted.
-  pub test_answer : WellFormed bs → (t : List ℕ) (m : Machine) → Holds bs t m → (b : Bool) → restriction m.letters (accepts (automaton_in t m)) w ≡ b → test_of bs w ≡ tested_of Good b
+  pub test_answer : WellFormed bs → (t : List ℕ) (m : Machine) → Holds bs t m → (b : Bool) → restriction m.letters (accepts (automaton_in t m)) w ≡ b → test_of bs w ≡ Ok b
   unfolding test_of
   test_answer good t m h b q =
       let same : record_accepts bs w ≡ b =
@@ -124,7 +128,7 @@ module _ (bs w : List ℕ) where
     foreign = λ good u l v q h. e ∙ rw (good, q, restriction_foreign (letters_of bs) (language_of bs) u l v h);
   }
     where
-      go : (c : Checked) → check_of bs ≡ c → (b : Bool) → record_accepts bs w ≡ b → tested_of c b ≡ Accepted → WellFormed bs × Over (letters_of bs) w × (language_of bs w ≡ true)
-      go Good good true h q = let p = restriction_parts (letters_of bs) (language_of bs) w h in (good, p.0, p.1)
-      go Good good false h q = let z : ◌≡◌ {A = ℕ} 0 1 = cc in absurd (omega arith)
-      go (Bad number place) bad b h q = let z : ◌≡◌ {A = ℕ} 0 1 = cc in absurd (omega arith)
+      go : (c : Check) → check_of bs ≡ c → (b : Bool) → record_accepts bs w ≡ b → tested_of c b ≡ Ok true → WellFormed bs × Over (letters_of bs) w × (language_of bs w ≡ true)
+      go (Ok u) good true h q = let p = restriction_parts (letters_of bs) (language_of bs) w h in (good, p.0, p.1)
+      go (Ok u) good false h q = let z : ◌≡◌ {A = ℕ} 0 1 = cc in absurd (omega arith)
+      go (Err f) bad b h q = let z : ◌≡◌ {A = ℕ} 0 1 = cc in absurd (omega arith)

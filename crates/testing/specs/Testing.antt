@@ -1,8 +1,9 @@
 -- Testing a word (01: test a word; Refusals, rows 1 to 7; 02, Note 3: a word with a letter outside the alphabet is not accepted).
+--   Tested           an answer: whether the word is accepted, or the refusal
 --   test_of bs w     what the test of the word w on the record bs answers
 --   Tests bs w r     what is claimed of the answer r
 --   Reached t m w x  x is the row that the machine reaches along w, for the contracts of inner functions
-use Rattle.std.specs.Prelude.{◌≡◌, Bool, true, ◌&&◌, cond, List, ◌∷◌, ◌++◌, ℕ, ◌^◌, ◌≤◌, ◌<◌}
+use Rattle.std.specs.Prelude.{◌≡◌, Bool, true, false, ◌&&◌, Result, Ok, Err, List, ◌∷◌, ◌++◌, ℕ, ◌^◌, ◌≤◌, ◌<◌}
 use Rattle.automata.specs.Word.{Over, is_over}
 use Rattle.automata.specs.Mask.{bit_of}
 use Rattle.automata.specs.Row.{reach}
@@ -10,16 +11,17 @@ use Rattle.rows.specs.declared.Machine.{Machine}
 use Rattle.rows.specs.declared.Row.{Row}
 use Rattle.rows.specs.Row.{mask}
 use Rattle.rows.specs.Machine.{automaton_in}
-use Rattle.record.specs.declared.Checked.{Checked}
-use Rattle.record.specs.declared.Checked.TheVariants.{Good, Refused as Bad}
+use Rattle.record.specs.declared.Refusal.{Refusal}
 use Rattle.record.specs.Record.{letters_of, check_of, WellFormed, language_of, record_accepts}
-use Rattle.testing.specs.declared.Tested.{Tested}
-use Rattle.testing.specs.declared.Tested.TheVariants.{Accepted, Rejected, Refused}
+use Rattle.record.specs.Rules.{Check, refusal}
+
+abbrev pub Tested : Type 0
+Tested = Result Bool Refusal
 
 -- What the check found, and whether the word is accepted, as an answer. A refusal names record 1.
-abbrev pub tested_of : Checked → Bool → Tested
-tested_of Good accepted = cond accepted Accepted Rejected
-tested_of (Bad number place) accepted = Refused number 1 place
+abbrev pub tested_of : Check → Bool → Tested
+tested_of (Ok u) accepted = Ok accepted
+tested_of (Err f) accepted = Err (refusal f.rule 1 f.place)
 
 unfoldable pub test_of : List ℕ → List ℕ → Tested
 test_of bs w = tested_of (check_of bs) (record_accepts bs w)
@@ -28,10 +30,10 @@ test_of bs w = tested_of (check_of bs) (record_accepts bs w)
 
 pub record Tests (bs w : List ℕ) (r : Tested) : Type 0 where
   -- Accepted exactly where the record is well formed, every letter of the word is below a, and the path count is odd.
-  pub accepts : WellFormed bs → Over (letters_of bs) w → language_of bs w ≡ true → r ≡ Accepted
-  pub accepted : r ≡ Accepted → WellFormed bs × Over (letters_of bs) w × (language_of bs w ≡ true)
+  pub accepts : WellFormed bs → Over (letters_of bs) w → language_of bs w ≡ true → r ≡ Ok true
+  pub accepted : r ≡ Ok true → WellFormed bs × Over (letters_of bs) w × (language_of bs w ≡ true)
   -- A letter outside the alphabet, whatever comes before it and after it: not accepted.
-  pub foreign : WellFormed bs → (u : List ℕ) (l : ℕ) (v : List ℕ) → w ≡ u ++ (l ∷ v) → letters_of bs ≤ l → r ≡ Rejected
+  pub foreign : WellFormed bs → (u : List ℕ) (l : ℕ) (v : List ℕ) → w ≡ u ++ (l ∷ v) → letters_of bs ≤ l → r ≡ Ok false
 
 -- ---- for the contracts of inner functions
 

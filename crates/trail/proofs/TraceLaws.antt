@@ -6,14 +6,15 @@ use native.Mathlib.Decide.{ℕ_discrete, dec_lt}
 use native.Mathlib.Omega.{arith}
 use lib.ListN.{length, get_or, set, drop, length-set, length-append, length-drop, get_or-append}
 use lib.Seq.{get_or-append_seam, get_or-append-add, get_or-set_same, get_or-set_other, get_or-drop, ext_get_or}
+use Rattle.trail.specs.declared.Step.{Step}
 use Rattle.trail.specs.Trail.{from_in, by_in, word_in, Traced}
 
 -- The length of the word of row r.
-abbrev pub depth : List ℕ → ℕ → ℕ
+abbrev pub depth : List Step → ℕ → ℕ
 depth w r = length (word_in w r)
 
 -- The letters from p on are written, and the word of r is what comes before.
-pub record Writing (k : ℕ) (w : List ℕ) (n r p : ℕ) (s₀ s : List ℕ) : Type 0 where
+pub record Writing (k : ℕ) (w : List Step) (n r p : ℕ) (s₀ s : List ℕ) : Type 0 where
   pub within : r ≤ k
   pub place : depth w r ≡ p
   pub front : (i : ℕ) → i < p → get_or (word_in w r) i 0 ≡ get_or (word_in w k) i 0
@@ -22,7 +23,7 @@ pub record Writing (k : ℕ) (w : List ℕ) (n r p : ℕ) (s₀ s : List ℕ) : 
   pub size : length s ≡ length s₀
   pub less : p ≤ n
 
-module _ (a k : ℕ) (w : List ℕ) (T : Traced a k w) where
+module _ (a k : ℕ) (w : List Step) (T : Traced a k w) where
   pub depth_child : (r : ℕ) → 0 < r → r ≤ k → depth w r ≡ depth w (from_in w r) + 1
   depth_child r p h = ap length (T.word r p h) ∙ length-append (word_in w (from_in w r)) (by_in w r ∷ [])
 

@@ -1,28 +1,37 @@
-// Where the rows of a search came from: a lent trail of one earlier row and one letter for each row, and the word of a row along it.
-#![tactic(auto)]
+// Where the rows of a search came from: a lent trail with a step for each row, and the word of a row along it.
+#![tactic(auto, unfolding(crate::specs::Trail::from_in, crate::specs::Trail::by_in, crate::specs::Trail::linked))]
 
 ghost use Rattle.std.specs.Prelude.{◌≡◌, ◌++◌, ◌≤◌, ◌<◌, length, drop};
 ghost use Rattle.rows.specs.Row.{width};
 ghost use Rattle.rows.specs.Table.{blocks};
-ghost use Rattle.trail.specs.Trail.{linked, from_in, word_in, Traced};
+ghost use Rattle.trail.specs.Trail.{trail_size, linked, from_in, word_in, Traced};
 
-// `width` bytes with the row that each row came from, then `width` bytes with the letters.
-pub type Trail = [u8; 128];
+// Where a row came from: an earlier row, and a letter.
+#[derive(Clone, Copy, PartialEq, Eq)]
+pub struct Step {
+    pub from: u8,
+    pub letter: u8,
+}
+
+// A step for each of `width` rows.
+pub type Trail = [Step; 64];
+
+// A trail of no rows yet.
+pub fn empty() -> Trail
+    ensures { length result ≡ trail_size }
+{
+    [Step { from: 0, letter: 0 }; 64]
+}
 
 // Row d came from row k by letter l.
 pub fn link(w: &mut Trail, d: usize, k: usize, l: usize)
     requires { (d < width) × (k < width) × (l < blocks) }
     ensures { w.new ≡ linked w.old d k l }
 {
-    w[d] = k as u8;
-    w[64 + d] = l as u8;
-}
-
-// A byte as a number.
-fn wide(x: u8) -> usize
-    ensures { result ≡ x }
-{
-    x as usize
+    w[d] = Step {
+        from: k as u8,
+        letter: l as u8,
+    };
 }
 
 // The row that row r came from.
@@ -30,7 +39,7 @@ fn from(w: &Trail, r: usize) -> usize
     requires { r < width }
     ensures { result ≡ from_in w.now r }
 {
-    wide(w[r])
+    usize::from(w[r].from)
 }
 
 // The length of the word of row k, over a letters.
@@ -40,6 +49,7 @@ pub fn depth(w: &Trail, a: usize, k: usize) -> usize
 {
     let mut n: usize = 0;
     let mut r = k;
+    // No range: the rows follow a chain, each to the one it came from.
     while r != 0 {
         r = from(w, r);
         n += 1;
@@ -54,9 +64,10 @@ pub fn trace(w: &Trail, a: usize, k: usize, n: usize, word: &mut [u8])
 {
     let mut p = n;
     let mut r = k;
+    // The same chain.
     while r != 0 {
         p -= 1;
-        word[p] = w[64 + r];
+        word[p] = w[r].letter;
         r = from(w, r);
     }
 }

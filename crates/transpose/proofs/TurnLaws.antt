@@ -9,7 +9,6 @@ use native.Mathlib.Decide.{dec_lt}
 use native.Mathlib.Numerals.{add-one}
 use native.Mathlib.Omega.{arith}
 use lib.Dec.{ltb}
-use lib.ListN.{length}
 use lib.Pow.{pow_mono}
 use borrow.Author.Tests.{lt-ltb, le-ltb}
 use Rattle.automata.specs.Xor.{◌⊕◌}
@@ -17,7 +16,7 @@ use Rattle.automata.specs.Mask.{bit_of}
 use Rattle.automata.proofs.Xor.{bool_cases, xor_zero, xor_not, xor_comm}
 use Rattle.automata.proofs.Below.{up_to}
 use Rattle.rows.specs.Row.{width, levels}
-use Rattle.rows.specs.Table.{size, at, row}
+use Rattle.rows.specs.Table.{at, row}
 use Rattle.rows.proofs.BitLaws.{bit_high, bit_ext, bits_lt}
 use Rattle.transpose.specs.Exchange.{padded, flip, exchanged, HasRows, OnlyBlock}
 use Rattle.transpose.specs.Transposed.{Transposed}
@@ -126,12 +125,6 @@ turn_end l w t s hw S = turned_end (2 ^ w) (padded (2 ^ w) (row t l)) (row s l) 
 pub record Turning (l n : ℕ) (t s : List ℕ) : Type 0 where
   pub done : Transposed l n t s
   pub rest : (m i : ℕ) → l ≤ m → i < width → at s m i ≡ at t m i
-
-pub turning_start : (n : ℕ) (t : List ℕ) → length t ≡ size → Turning 0 n t t
-turning_start n t h = record {
-  done = record { rows = λ l i z. absurd (not-suc-le-zero z); low = λ l i z. absurd (not-suc-le-zero z); size = h };
-  rest = λ m i p q. refl;
-}
 
 -- The matrix in the next block is within bounds.
 pub turning_low : (a l n : ℕ) (t s : List ℕ) → l < a → n ≤ width → ((l i : ℕ) → l < a → i < n → at t l i < 2 ^ n) → Turning l n t s → (i : ℕ) → i < n → at s l i < 2 ^ n

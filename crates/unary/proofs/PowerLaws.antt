@@ -3,7 +3,7 @@ use mathlib.Core.Path.{◌≡◌, refl, sym, ap, ap₂, subst, ◌∙◌}
 use mathlib.Core.Bool.{Bool, true, false, cond}
 use mathlib.Core.List.{List, [], ◌∷◌, ◌++◌}
 use mathlib.Core.Option.{none, some}
-use Prim.Native.Nat.{ℕ, zero, suc, ◌+◌, ◌<◌, ◌≤◌}
+use Prim.Native.Nat.{ℕ, zero, suc, ◌+◌, ◌^◌, ◌<◌, ◌≤◌}
 use native.Mathlib.Numerals.{add-one}
 use native.Mathlib.Omega.{arith}
 use lib.ListN.{length}
@@ -18,6 +18,7 @@ use Rattle.automata.proofs.FirstDifference.{none_difference, some_difference}
 use Rattle.rows.specs.declared.Machine.{Machine}
 use Rattle.rows.specs.Row.{width, mask}
 use Rattle.rows.specs.Product.{product}
+use Rattle.trail.specs.declared.Step.{Step}
 use Rattle.trail.specs.Trail.{trail_size, from_in, by_in, word_in, linked, Traced}
 use Rattle.trail.proofs.LinkLaws.{linked_length, linked_from, linked_by, linked_from_new, linked_by_new}
 use Rattle.record.specs.Bytes.{number}
@@ -27,14 +28,16 @@ use Rattle.hunt.specs.Hunt.{shared}
 use Rattle.hunt.proofs.BothLaws.{paired_sizes}
 use Rattle.triangular.specs.Triangular.{InSpan}
 use Rattle.verdict.specs.Rows.{both_of, RowOf}
+use Rattle.verdict.specs.declared.Side.{Side}
+use Rattle.verdict.specs.Side.{side_of}
 use Rattle.verdict.specs.Judged.{Found}
-use Rattle.verdict.proofs.RowLaws.{row_start, row_next, row_differs, row_first}
+use Rattle.verdict.proofs.RowLaws.{row_start, row_next, row_below, row_differs, row_first}
 use Rattle.unary.specs.Powers.{power, power_row, Powers}
 use Rattle.unary.proofs.Unary.{first_power_lem, no_power, no_more}
 
 -- ---- the words of such a trail
 
-module _ (w : List ℕ) where
+module _ (w : List Step) where
   word_power : (k : ℕ) → ((r : ℕ) → r < k → from_in w (suc r) ≡ r) → ((r : ℕ) → r < k → by_in w (suc r) ≡ 0) → word_in w k ≡ power k
   word_power zero from by = refl
   word_power (suc k) from by =
@@ -70,7 +73,7 @@ module _ (bs cs : List ℕ) (m : Machine) (P : Paired bs cs m) where
   abbrev B : Automaton
   B = automaton_of cs
 
-  pub powers_start : (w : List ℕ) → length w ≡ trail_size → shared m.states (mask m.initial) (mask m.finals) ≡ false → Powers bs cs w 0 (mask m.initial)
+  pub powers_start : (w : List Step) → length w ≡ trail_size → shared m.states (mask m.initial) (mask m.finals) ≡ false → Powers bs cs w 0 (mask m.initial)
   powers_start w t e = record {
     row = row_start bs cs m P;
     none = λ i h. let z : i ≡ 0 = omega arith in ap (λ n. accepts A (power n) ⊕ accepts B (power n)) z ∙ row_differs bs cs m P [] (mask m.initial) (row_start bs cs m P) ∙ e;
@@ -81,16 +84,16 @@ module _ (bs cs : List ℕ) (m : Machine) (P : Paired bs cs m) where
 
   module _ (one : m.letters ≡ 1) where
     -- Every word of fewer letters than there are states was tried.
-    pub powers_end : (w : List ℕ) (k x : ℕ) → m.states ≤ k + 1 → Powers bs cs w k x → first_difference (letters_of bs) A B ≡ none
+    pub powers_end : (w : List Step) (k x : ℕ) → m.states ≤ k + 1 → Powers bs cs w k x → first_difference (letters_of bs) A B ≡ none
     powers_end w k x h R = subst (λ a. first_difference a A B ≡ none) (sym one ∙ P.letters) (none_difference 1 A B (no_power A B (λ i g. R.none i (omega (arith, P.states)))))
 
     -- The row is an xor of those before it.
-    pub powers_spanned : (w : List ℕ) (k x : ℕ) → Powers bs cs w k x → InSpan (states_of bs + states_of cs) k (power_row bs cs) x → first_difference (letters_of bs) A B ≡ none
+    pub powers_spanned : (w : List Step) (k x : ℕ) → Powers bs cs w k x → InSpan (states_of bs + states_of cs) k (power_row bs cs) x → first_difference (letters_of bs) A B ≡ none
     powers_spanned w k x R (c, e) = subst (λ a. first_difference a A B ≡ none) (sym one ∙ P.letters)
         (none_difference 1 A B (no_power A B (λ i g. sym (accepts_sum A B (power i))
         ∙ no_more (both_of bs cs) k c (λ j h. sym (R.row.bits j h) ∙ e j h) (λ i h. accepts_sum A B (power i) ∙ R.none i (omega arith)) i)))
 
-    module _ (w : List ℕ) (k x : ℕ) (R : Powers bs cs w k x) (h : k + 1 < m.states) (y : ℕ) (e : y ≡ product (states_of bs + states_of cs) x (beside_of bs cs 0)) (w' : List ℕ) (l : w' ≡ linked w (k + 1) k 0) where
+    module _ (w : List Step) (k x : ℕ) (R : Powers bs cs w k x) (h : k + 1 < m.states) (y : ℕ) (e : y ≡ product (states_of bs + states_of cs) x (beside_of bs cs 0)) (w' : List Step) (l : w' ≡ linked w (k + 1) k 0) where
       pub powers_row : RowOf bs cs (power (suc k)) y
       powers_row = row_next bs cs m P (power k) x 0 y R.row (omega (arith, one)) e
 
@@ -107,11 +110,15 @@ module _ (bs cs : List ℕ) (m : Machine) (P : Paired bs cs m) where
           (λ r g. ap (λ v. by_in v (suc r)) l ∙ linked_by w (k + 1) k 0 inside (suc r) (omega arith) ∙ R.by r g)
           (ap₂ by_in l (sym (add-one k)) ∙ linked_by_new w (k + 1) k 0 inside R.trail)
 
+      -- The parity of its row with the final column tells whether just one accepts it.
+      pub powers_told : (r t : Bool) → ((n : ℕ) → y < 2 ^ n → r ≡ shared n y (mask m.finals)) → r ≡ t → shared m.states y (mask m.finals) ≡ t
+      powers_told r t p q = sym (p m.states (row_below bs cs m P (power (suc k)) y powers_row)) ∙ q
+
       -- One letter more, and just one accepts.
-      pub powers_found : (first : Bool) → first ≡ shared (states_of bs) (number row_bytes bs final_at) y → shared m.states y (mask m.finals) ≡ true → Found (letters_of bs) A B w' (k + 1) first
-      powers_found first s t = rw add-one (subst (λ a. Found a A B w' (suc k) first) (sym one ∙ P.letters) (record {
+      pub powers_found : (side : Side) → side ≡ side_of (shared (states_of bs) (number row_bytes bs final_at) y) → shared m.states y (mask m.finals) ≡ true → Found (letters_of bs) A B w' (k + 1) side
+      powers_found side s t = rw add-one (subst (λ a. Found a A B w' (suc k) side) (sym one ∙ P.letters) (record {
         word = some_difference 1 A B (power (suc k)) (first_power_lem A B (suc k) (row_differs bs cs m P (power (suc k)) y powers_row ∙ t) (λ i g. R.none i (omega arith))) ∙ ap some (sym long);
-        side = s ∙ row_first bs cs m P (power (suc k)) y powers_row ∙ ap (accepts A) (sym long);
+        side = s ∙ ap side_of (row_first bs cs m P (power (suc k)) y powers_row ∙ ap (accepts A) (sym long));
         traced = traced_powers w' (suc k) from' by' (omega (arith, inside));
       }))
         where

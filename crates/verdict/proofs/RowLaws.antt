@@ -25,6 +25,7 @@ use Rattle.rows.specs.Product.{product}
 use Rattle.rows.specs.Machine.{auto_by}
 use Rattle.rows.proofs.BitLaws.{bit_none}
 use Rattle.rows.proofs.ProductLaws.{bit_product, product_lt}
+use Rattle.trail.specs.declared.Step.{Step}
 use Rattle.record.specs.Bytes.{number}
 use Rattle.record.specs.Record.{row_bytes, final_at, states_of, letters_of, WellFormed, automaton_of}
 use Rattle.hunt.specs.Both.{beside_of, Paired}
@@ -87,7 +88,7 @@ module _ (bs cs : List ℕ) (m : Machine) (P : Paired bs cs m) where
       own j g = R.bits j (omega arith) ∙ reach_low A B S.initial u j g ∙ reach_cong A S.initial A.initial (initial_low A B) u j g
 
   -- The empty word tells the two apart.
-  pub judged_empty : (w : List ℕ) (s : Side) → s ≡ side_of (shared (states_of bs) (number row_bytes bs final_at) (mask m.initial)) → shared m.states (mask m.initial) (mask m.finals) ≡ true → Found (letters_of bs) A B w 0 s
+  pub judged_empty : (w : List Step) (s : Side) → s ≡ side_of (shared (states_of bs) (number row_bytes bs final_at) (mask m.initial)) → shared m.states (mask m.initial) (mask m.finals) ≡ true → Found (letters_of bs) A B w 0 s
   judged_empty w s e z = record {
     word = some_difference (letters_of bs) A B [] (record { over = tt; differs = row_differs [] (mask m.initial) row_start ∙ z; first = λ u o h. absurd (none_before u h) });
     side = e ∙ ap side_of (row_first [] (mask m.initial) row_start);

@@ -8,6 +8,7 @@ use Rattle.automata.specs.FirstDifference.{first_difference}
 use Rattle.rows.specs.declared.Machine.{Machine}
 use Rattle.rows.specs.declared.Row.{Row}
 use Rattle.rows.specs.Row.{mask}
+use Rattle.trail.specs.declared.Step.{Step}
 use Rattle.trail.specs.Trail.{trail_size, word_in, Traced}
 use Rattle.record.specs.Bytes.{number}
 use Rattle.record.specs.Record.{row_bytes, final_at, letters_of, automaton_of}
@@ -18,19 +19,19 @@ use Rattle.verdict.specs.declared.Side.{Side}
 use Rattle.verdict.specs.Side.{side_of}
 
 -- The first difference is the word of row r; the side s accepts it.
-pub record Found (a : ℕ) (A B : Automaton) (w : List ℕ) (r : ℕ) (s : Side) : Type 0 where
+pub record Found (a : ℕ) (A B : Automaton) (w : List Step) (r : ℕ) (s : Side) : Type 0 where
   pub word : first_difference a A B ≡ some (word_in w r)
   pub side : s ≡ side_of (accepts A (word_in w r))
   pub traced : Traced a r w
 
-abbrev pub Judged : ℕ → Automaton → Automaton → List ℕ → Option Apart → Type 0
+abbrev pub Judged : ℕ → Automaton → Automaton → List Step → Option Apart → Type 0
 Judged a A B w None = first_difference a A B ≡ none
 Judged a A B w (Some x) = Found a A B w x.row x.side
 
-abbrev pub JudgedOf : List ℕ → List ℕ → List ℕ → Option Apart → Type 0
+abbrev pub JudgedOf : List ℕ → List ℕ → List Step → Option Apart → Type 0
 JudgedOf bs cs w r = Judged (letters_of bs) (automaton_of bs) (automaton_of cs) w r
 
-pub record Undecided (bs cs : List ℕ) (m : Machine) (g : Row) (w : List ℕ) : Type 0 where
+pub record Undecided (bs cs : List ℕ) (m : Machine) (g : Row) (w : List Step) : Type 0 where
   pub paired : Paired bs cs m
   pub trail : length w ≡ trail_size
   pub empty : shared m.states (mask m.initial) (mask m.finals) ≡ false

@@ -1,8 +1,8 @@
 -- `give`: a refusal, or what `codec::write` does with the entry that was loaded.
-use mathlib.Core.Path.{◌∙◌}
+use mathlib.Core.Path.{refl, ap, ◌∙◌}
 use native.Mathlib.Omega.{arith}
 use lib.ListN.{length}
-use Rattle.record.specs.declared.Written.TheVariants.{Refused}
+use Rattle.std.specs.Prelude.{Err}
 use Rattle.catalogue.proofs.Records.{record_bounds, encode_loaded}
 use Rattle.catalogue.proofs.Giving.{number_met, number_passes, promises}
 use Rattle.catalogue.proofs.give.Goals as goal
@@ -12,7 +12,7 @@ returns-then-number-gt-LAST c =
     let a = c.args in
     let room = length a.out.now in
     let e = number_met a.number room (omega arith) in
-    let p = promises a.number a.out.now a.out.now (Refused 13 0 a.number) (rw e) (rw e) in
+    let p = promises a.number a.out.now a.out.now _ (ap Err c.of.ensures ∙ rw e refl) (rw e) in
     record { answer = p.0; buffer = p.1.0; claims = p.1.1 }
 
 pub write-requires : goal.write-requires

@@ -26,7 +26,8 @@ returns-then-parity c =
     let a = c.args in
     let p = c.paired-m in
     let g = c.field_at-g in
-    judged_empty a.first.now a.second.now p.result p.ensures a.w.now c.parity-then-parity.result (side_told a.first.now c.requires.0.0 (mask g.result) (mask p.result.initial) c.parity-then-parity.result g.ensures c.parity-then-parity.ensures) (sym (told (goal.at.returns-then-parity c).After-parity) ∙ c.if-parity.true)
+    let s = c.parted.result.side in
+    rw c.parted.ensures.row (judged_empty a.first.now a.second.now p.result p.ensures a.w.now s (side_told a.first.now c.requires.0.0 (mask g.result) (mask p.result.initial) s g.ensures c.parted.ensures.side) (sym (told (goal.at.returns-then-parity c).After-parity) ∙ c.if-parity.true))
 
 -- No state is initial.
 pub returns-then-is_none : goal.returns-then-is_none

@@ -18,7 +18,12 @@ returns-in_err-check_pair g c =
     record { answer = p.0; buffer = p.1.0; claims = p.1.1 }
 
 pub join_records-m-requires : goal.join_records-m-requires
-join_records-m-requires g c = (both_passed _ _ (sym c.in_ok-check_pair.ensures), refl, refl)
+join_records-m-requires g c =
+    let p = both_passed _ _ (sym c.in_ok-check_pair.ensures) in
+    let one = p.0 in
+    let two = p.1 in
+    let same = p.2 in
+    (((cc), (cc), (cc)), refl, refl)
 
 pub returns : goal.returns
 returns g c =

@@ -6,7 +6,7 @@ use Rattle.rows.specs.Row.{width, mask}
 use Rattle.rows.proofs.BesideLaws.{moved_fits, high_lt, low_lt}
 use Rattle.record.specs.Record.{states_of, letters_of, max_states, max_letters}
 use Rattle.record.proofs.Refusals.{good_check}
-use Rattle.products.proofs.LineLaws.{merged_start, merged_step, entry_lt, both_merged}
+use Rattle.products.proofs.LineLaws.{merged_step, entry_lt, both_merged}
 use Rattle.products.proofs.PairLaws.{row_fits}
 use Rattle.pair_products.proofs.times_both.Goals.{After-split-p, In-loop-l, Start}
 use Rattle.pair_products.proofs.times_both.Goals as goal
@@ -33,14 +33,8 @@ letter c = omega (arith, c.size-a.ensures.0, c.loop-l-test.true)
 pub bounds-first-5 : goal.bounds-first-5
 bounds-first-5 c = let f = (good_check _ c.requires.0).front in omega arith
 
-pub size-n-requires : goal.size-n-requires
-size-n-requires c = tt
-
 pub bounds-first-6 : goal.bounds-first-6
 bounds-first-6 c = let f = (good_check _ c.requires.0).front in omega arith
-
-pub size-a-requires : goal.size-a-requires
-size-a-requires c = tt
 
 pub split-p-requires : goal.split-p-requires
 split-p-requires c =
@@ -54,9 +48,6 @@ times_all-requires c =
 
 pub times_all-requires-2 : goal.times_all-requires-2
 times_all-requires-2 c = (c.requires.1, high (goal.at.times_all-requires-2 c).After-split-p, refl)
-
-pub loop-l-init : goal.loop-l-init
-loop-l-init c = (omega arith, merged_start _ _ _ c.times_all.ensures.0)
 
 pub pick-y-requires : goal.pick-y-requires
 pick-y-requires c = omega (arith, letter (goal.at.pick-y-requires c).In-loop-l, letters (goal.at.pick-y-requires c).Start)
@@ -73,25 +64,14 @@ moved-z-requires c =
 pub pick-requires : goal.pick-requires
 pick-requires c = omega (arith, letter (goal.at.pick-requires c).In-loop-l, letters (goal.at.pick-requires c).Start)
 
-pub xor-requires : goal.xor-requires
-xor-requires c = tt
-
 pub put-requires : goal.put-requires
 put-requires c = omega (arith, letter (goal.at.put-requires c).In-loop-l, letters (goal.at.put-requires c).Start)
 
-pub overflow_add-l : goal.overflow_add-l
-overflow_add-l c = omega (arith, letter (goal.at.overflow_add-l c).In-loop-l, letters (goal.at.overflow_add-l c).Start)
-
-pub loop-l-smaller : goal.loop-l-smaller
-loop-l-smaller c = omega (arith, c.loop-l-test.true)
-
 pub loop-l-preserved : goal.loop-l-preserved
 loop-l-preserved c =
-    let v = c.loop-l in (
-      omega (arith, c.loop-l-test.true),
-      merged_step v.l c.size-n.result c.times_all.new.s c.times_all-2.new.s v.s (omega (arith, letter (goal.at.overflow_add-l c).In-loop-l, letters (goal.at.overflow_add-l c).Start))
-          c.pick.ensures c.pick-y.ensures c.moved-z.ensures c.xor.ensures c.put.ensures v.invariant.1,
-    )
+    let v = c.loop-l in
+    merged_step v.l c.size-n.result c.times_all.new.s c.times_all-2.new.s v.s (omega (arith, letter (goal.at.loop-l-preserved c).In-loop-l, letters (goal.at.loop-l-preserved c).Start))
+    c.pick.ensures c.pick-y.ensures c.moved-z.ensures c.xor.ensures c.put.ensures v.invariant
 
 pub returns : goal.returns
 returns c =
@@ -101,4 +81,4 @@ returns c =
     let u = c.times_all in
     let w = c.times_all-2 in
     both_merged c.args.first.now c.args.second.now (mask c.args.x) n.result v.l u.new.s w.new.s v.s c.requires.2 n.ensures.0
-    (omega (arith, c.size-a.ensures.0, c.loop-l-test.false, v.invariant.0)) h.ensures.0 h.ensures.1 u.ensures w.ensures v.invariant.1
+    (omega (arith, c.size-a.ensures.0, c.loop-l-test.false)) h.ensures.0 h.ensures.1 u.ensures w.ensures v.invariant

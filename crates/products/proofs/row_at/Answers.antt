@@ -16,15 +16,6 @@ few c = let f = (passed c).front in area c.args.l c.args.n (omega arith) (omega 
 pub overflow_mul-l : goal.overflow_mul-l
 overflow_mul-l c = omega (arith, few (goal.at.overflow_mul-l c).Start)
 
-pub overflow_add-l : goal.overflow_add-l
-overflow_add-l c = let f = (passed (goal.at.overflow_mul-l c).Start).front in omega (arith, few (goal.at.overflow_mul-l c).Start)
-
-pub overflow_mul-l-2 : goal.overflow_mul-l-2
-overflow_mul-l-2 c = let f = (passed (goal.at.overflow_mul-l c).Start).front in omega (arith, few (goal.at.overflow_mul-l c).Start)
-
-pub overflow_add-l-2 : goal.overflow_add-l-2
-overflow_add-l-2 c = let f = (passed (goal.at.overflow_mul-l c).Start).front in omega (arith, few (goal.at.overflow_mul-l c).Start)
-
 pub field_at-requires : goal.field_at-requires
 field_at-requires c =
     row_inside c.args.bytes.now (passed (goal.at.overflow_mul-l c).Start) c.requires.1 c.args.l c.args.i c.requires.2 c.requires.3

@@ -22,12 +22,8 @@ returns-then-is_none c =
 some : (c : Else-is_none) → 0 < mask c.args.x
 some c = let d = eqb-false (mask c.args.x) 0 (sym c.is_none.ensures ∙ c.if-is_none.false) in omega (arith, d)
 
-pub lowest-requires : goal.lowest-requires
-lowest-requires c = some c
-
 pub row_at-requires : goal.row_at-requires
-row_at-requires c =
-    (c.requires.0, c.requires.1, c.requires.2, rw c.requires.1 (bit_below (states_of c.args.bytes.now) c.requires.3 c.lowest.result c.lowest.ensures.1))
+row_at-requires c = let n = c.requires.1 in (c.requires.0, n, c.requires.2, rw n (bit_below (states_of c.args.bytes.now) c.requires.3 c.lowest.result c.lowest.ensures.1))
 
 pub returns : goal.returns
 returns c =

@@ -5,6 +5,7 @@ use native.Mathlib.Omega.{arith}
 use Rattle.rows.specs.Row.{mask}
 use Rattle.basis.specs.Basis.{cell}
 use Rattle.lookup.specs.Lookup.{chosen}
+use Rattle.trail.specs.declared.Step.{Step}
 use Rattle.reduction.proofs.TableSearch.{count_bound}
 use Rattle.hunt.specs.Both.{beside_of}
 use Rattle.hunt.specs.Hunt.{HuntingIn}
@@ -15,7 +16,7 @@ use Rattle.search.proofs.pass_rows.Goals.{At-loop-j}
 use Rattle.search.proofs.pass_rows.Goals as goal
 
 -- Where row j is next; the search is there for some trail.
-next : (c : At-loop-j) → (w : List ℕ) × HuntingIn c.args.stride c.args.first.now c.args.second.now c.args.m c.args.b.now w c.args.s c.loop-j.j 0
+next : (c : At-loop-j) → (w : List Step) × HuntingIn c.args.stride c.args.first.now c.args.second.now c.args.m c.args.b.now w c.args.s c.loop-j.j 0
 next c = (c.requires.1.0, c.loop-j.invariant c.requires.1.0 c.requires.1.1)
 
 pub get-x-requires : goal.get-x-requires

@@ -1,44 +1,24 @@
 -- `test`: the check refuses for the whole, or the row that the word reaches decides; what is claimed follows from the answer.
-use mathlib.Core.Path.{◌≡◌, refl, sym, ◌∙◌}
-use mathlib.Core.Bool.{Bool, true, false}
-use Rattle.record.specs.declared.Checked.TheVariants.{Good}
-use Rattle.record.specs.Record.{WellFormed}
-use Rattle.testing.specs.Testing.{tested_of, test_of}
+use mathlib.Core.Path.{◌≡◌, sym, ◌∙◌}
+use Rattle.std.specs.Prelude.{Ok}
+use Rattle.record.proofs.Refusals.{told_good, returned}
+use Rattle.testing.specs.Testing.{test_of}
 use Rattle.testing.proofs.Testing.{reached_accepts, test_refused, test_answer, tests}
-use Rattle.testing.proofs.test.Goals.{After-parity, In-Good}
 use Rattle.testing.proofs.test.Goals as goal
 
--- Past the check the record is well formed.
-passed : (c : In-Good) → WellFormed c.args.bytes.now
-passed c = sym c.check-c.ensures ∙ c.in-Good.is
+pub returns-in_err-check_as : goal.returns-in_err-check_as
+returns-in_err-check_as c =
+    let e = returned c.from_residual.result c.from_residual.ensures.1 ∙ sym (test_refused _ _ c.in_err-check_as.ensures) in
+    record { answer = e; claims = tests _ _ _ e }
 
-answer : (c : After-parity) (b : Bool) → c.parity.result ≡ b → test_of c.args.bytes.now c.args.word.now ≡ tested_of Good b
-answer c b e =
+pub returns : goal.returns
+returns c =
+    let bs = c.args.bytes.now in
+    let w = c.args.word.now in
     let t = c.read-m.new.t in
     let m = c.read-m.result in
-    let reached = c.follow-x.ensures in
-    test_answer c.args.bytes.now c.args.word.now (sym c.check-c.ensures ∙ c.in-Good.is) t m c.read-m.ensures b
-    (sym (reached_accepts t m c.read-m.ensures.valid c.args.word.now c.follow-x.result reached)
-    ∙ sym (c.parity.ensures m.states reached.below)
-    ∙ e)
-
-pub returns-in_default : goal.returns-in_default
-returns-in_default c =
-    let e : c.refused.result ≡ test_of c.args.bytes.now c.args.word.now = c.refused.ensures ∙ rw c.in_default.is (sym (test_refused _ _ (sym c.check-c.ensures ∙ c.in_default.is))) in
-    record { answer = e; claims = tests _ _ _ e }
-
-pub read-m-requires : goal.read-m-requires
-read-m-requires c = (passed (goal.at.read-m-requires c).In-Good, refl)
-
-pub follow-x-requires : goal.follow-x-requires
-follow-x-requires c = c.read-m.ensures.valid
-
-pub returns-then-parity : goal.returns-then-parity
-returns-then-parity c =
-    let e = sym (answer (goal.at.returns-then-parity c).After-parity true c.if-parity.true) in
-    record { answer = e; claims = tests _ _ _ e }
-
-pub returns-else-parity : goal.returns-else-parity
-returns-else-parity c =
-    let e = sym (answer (goal.at.returns-else-parity c).After-parity false c.if-parity.false) in
-    record { answer = e; claims = tests _ _ _ e }
+    let x = c.follow-x in
+    let told : Ok c.parity.result ≡ test_of bs w =
+    sym (test_answer bs w (told_good _ 1 c.in_ok-check_as.ensures) t m c.read-m.ensures c.parity.result
+    (sym (reached_accepts t m c.read-m.ensures.valid w x.result x.ensures) ∙ sym (c.parity.ensures m.states x.ensures.below))) in
+    record { answer = told; claims = tests _ _ _ told }
