@@ -6,11 +6,12 @@ use native.Mathlib.Omega.{arith}
 use lib.ListN.{length, get_or, take, drop, length-drop}
 use lib.Seq.{get_or-take, length-take-le}
 use Rattle.record.specs.Record.{header, row_bytes, initial_at, states_of, letters_of, front_of, need_of, check_of}
-use Rattle.record.specs.declared.Checked.TheVariants.{Good, Refused as Bad}
+use Rattle.record.specs.declared.Rule.TheVariants.{StrayBit}
+use Rattle.record.specs.declared.Fault.{Fault}
+use Rattle.std.specs.Prelude.{Ok, Err, Some}
 use Rattle.record.proofs.Bytes.{number_2}
 use Rattle.record.proofs.Refusals.{good_front, front_good, fields_met, stray_seven}
-use Rattle.script.specs.Script.{part_at, bytes_at}
-use Rattle.script.specs.declared.Part.TheVariants.{Whole}
+use Rattle.script.specs.Script.{whole, part_at, bytes_at}
 use Rattle.script.proofs.Parts.{whole_stands}
 
 -- Rows 1 to 5 and the length that they need look at the first 7 bytes only.
@@ -18,7 +19,7 @@ module _ (l m : List ℕ) (same : (i : ℕ) → i < header → get_or m i 0 ≡ 
   pub need_same : need_of m ≡ need_of l
   need_same = rw (same 5 (omega arith), same 6 (omega arith))
 
-  pub front_same : header ≤ length m → front_of l ≡ Good → front_of m ≡ Good
+  pub front_same : header ≤ length m → front_of l ≡ Ok tt → front_of m ≡ Ok tt
   front_same long e =
       let f = good_front l e in
       front_good m (record {
@@ -35,14 +36,14 @@ module _ (l m : List ℕ) (same : (i : ℕ) → i < header → get_or m i 0 ≡ 
 taken : (l : List ℕ) (k : ℕ) → header ≤ k → (i : ℕ) → i < header → get_or (take k l) i 0 ≡ get_or l i 0
 taken l k long i h = get_or-take k l i 0 (omega arith)
 
-module _ (s : List ℕ) (at start next : ℕ) (e : part_at s at ≡ Whole start next) where
+module _ (s : List ℕ) (at start next : ℕ) (e : part_at s at ≡ Some (Ok (whole start next))) where
   pub length_whole : length (bytes_at s start next) ≡ next - start
   length_whole =
       let w = whole_stands s at start next e in
       let l = length-drop start s in
       length-take-le (next - start) (drop start s) (omega arith)
 
-  pub front_whole : front_of (bytes_at s start next) ≡ Good
+  pub front_whole : front_of (bytes_at s start next) ≡ Ok tt
   front_whole =
       let w = whole_stands s at start next e in
       let l = length-drop start s in
@@ -54,7 +55,7 @@ module _ (s : List ℕ) (at start next : ℕ) (e : part_at s at ≡ Whole start 
       let n = need_same (drop start s) (bytes_at s start next) (taken (drop start s) (next - start) (omega arith)) in
       length_whole ∙ omega arith
 
-  pub whole_seven : (number place : ℕ) → check_of (bytes_at s start next) ≡ Bad number place → number ≡ 7
-  whole_seven number place r =
+  pub whole_seven : (f : Fault) → check_of (bytes_at s start next) ≡ Err f → f.rule ≡ StrayBit
+  whole_seven f r =
       let bs = bytes_at s start next in
-      stray_seven row_bytes (states_of bs) bs (2 + letters_of bs * states_of bs) initial_at number place (fields_met bs front_whole need_whole ∙ r)
+      stray_seven row_bytes (states_of bs) bs (2 + letters_of bs * states_of bs) initial_at f (fields_met bs front_whole need_whole ∙ r)
