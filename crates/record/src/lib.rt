@@ -160,10 +160,8 @@ fn all_fields(bytes: &[u8], k: usize) -> Row
 {
     let end = INITIAL_AT + ROW_BYTES * k;
     let mut y = rows::none();
-    let mut p = INITIAL_AT;
-    while p < end {
+    for p in (INITIAL_AT..end).step_by(ROW_BYTES) {
         y = rows::or(y, field_at(bytes, p));
-        p += ROW_BYTES;
     }
     y
 }
@@ -174,12 +172,10 @@ fn find_stray(bytes: &[u8], n: usize, k: usize) -> Result<(), Fault>
     ensures { result ≡ stray_from row_bytes n bytes.now k initial_at }
 {
     let end = INITIAL_AT + ROW_BYTES * k;
-    let mut place = INITIAL_AT;
-    while place < end {
+    for place in (INITIAL_AT..end).step_by(ROW_BYTES) {
         if !rows::within(field_at(bytes, place), n) {
             return Err(Rule::StrayBit.at(place));
         }
-        place += ROW_BYTES;
     }
     Ok(())
 }
