@@ -20,32 +20,9 @@ inside : (c : In-loop-i)
 inside c =
     omega (arith, c.requires.3, row_lt c.args.m.letters c.args.m.states c.args.l c.loop-i.i c.requires.2 c.loop-i-test.true)
 
-pub overflow_mul-first : goal.overflow_mul-first
-overflow_mul-first c =
-    let v = c.requires.0 in
-    omega (arith, area c.args.l c.args.m.states (omega (arith, v.letters, c.requires.2)) c.requires.1)
-
 pub loop-i-init : goal.loop-i-init
 unfolding all_bytes
 loop-i-init c = refl
-
-pub overflow_add-first : goal.overflow_add-first
-overflow_add-first c = omega (arith, inside (goal.at.overflow_add-first c).In-loop-i)
-
-pub overflow_mul-first-in-loop-i : goal.overflow_mul-first-in-loop-i
-overflow_mul-first-in-loop-i c = omega (arith, inside (goal.at.overflow_add-first c).In-loop-i)
-
-pub overflow_add-first-in-loop-i : goal.overflow_add-first-in-loop-i
-overflow_add-first-in-loop-i c = omega (arith, inside (goal.at.overflow_add-first c).In-loop-i)
-
-pub load-requires : goal.load-requires
-load-requires c =
-    let p = c.requires in
-    let v = p.0 in
-    (omega (arith, v.letters, p.2), omega (arith, p.1))
-
-pub put_field-requires : goal.put_field-requires
-put_field-requires c = rw (c.loop-i.invariant, length-sets) (omega (arith, inside (goal.at.put_field-requires c).In-loop-i))
 
 pub loop-i-preserved : goal.loop-i-preserved
 loop-i-preserved c =
@@ -53,8 +30,3 @@ loop-i-preserved c =
     c.put_field.ensures
     ∙ rw (c.loop-i.invariant, c.load.ensures)
     (row_stored row_bytes (at a.t.now a.l) a.buf.now (rows_at + row_bytes * (a.l * a.m.states)) c.loop-i.i (omega arith))
-
-pub returns : goal.returns
-returns c =
-    let e : c.loop-i.i ≡ c.args.m.states = omega arith in
-    c.loop-i.invariant ∙ rw e

@@ -12,17 +12,7 @@ pub loop-l-init : goal.loop-l-init
 unfolding all_bytes
 loop-l-init c = refl
 
-pub put_block-requires : goal.put_block-requires
-put_block-requires c =
-    let p = c.requires in
-    (p.0, p.1, c.loop-l-test.true, rw (c.loop-l.invariant, length-sets) p.2)
-
 pub loop-l-preserved : goal.loop-l-preserved
 loop-l-preserved c =
     let a = c.args in
     rw (c.put_block.ensures, c.loop-l.invariant) (letter_stored row_bytes a.m.states (at a.t.now) a.buf.now rows_at c.loop-l.l)
-
-pub returns : goal.returns
-returns c =
-    let e : c.loop-l.l ≡ c.args.m.letters = omega arith in
-    c.loop-l.invariant ∙ rw e
