@@ -27,26 +27,13 @@ pub fn read(bytes: &[u8], t: &mut Table) -> Machine
     lent::read(Record { bytes }, t)
 }
 
-// The low byte of a number.
-fn low(x: u64) -> u8
-    ensures { result ≡ x % 256 }
-{
-    (x % 256) as u8
-}
-
 // The low four bytes of a row, at offset p.
 fn put_field(buf: &mut [u8], p: usize, x: Row)
-    requires { (p + row_bytes ≤ length buf.old) × (mask x < 2 ^ 64) }
+    requires { p + row_bytes ≤ length buf.old }
     ensures { buf.new ≡ sets buf.old p (bytes_of row_bytes (mask x)) }
 {
-    let x0 = rows::to_u64(x);
-    let x1 = x0 / 256;
-    let x2 = x1 / 256;
-    let x3 = x2 / 256;
-    buf[p] = low(x0);
-    buf[p + 1] = low(x1);
-    buf[p + 2] = low(x2);
-    buf[p + 3] = low(x3);
+    let bytes = u64::from(x).to_le_bytes();
+    buf[p..p + ROW_BYTES].copy_from_slice(&bytes[..ROW_BYTES]);
 }
 
 // Mark, version, n and a.
@@ -70,10 +57,8 @@ fn put_block(t: &Table, m: Machine, l: usize, buf: &mut [u8])
 {
     let n = m.states;
     let first = l * n;
-    let mut i = 0;
-    while i < n {
+    for i in 0..n {
         put_field(buf, ROWS_AT + ROW_BYTES * (first + i), rows::load(t, l, i));
-        i += 1;
     }
 }
 
@@ -82,11 +67,8 @@ fn put_rows(t: &Table, m: Machine, buf: &mut [u8])
     requires { Valid t.now m × (m.states ≤ max_states) × (length_of m.states m.letters ≤ length buf.old) }
     ensures { buf.new ≡ sets buf.old rows_at (all_bytes row_bytes (rows_of m.letters m.states (at t.now))) }
 {
-    let a = m.letters;
-    let mut l = 0;
-    while l < a {
+    for l in 0..m.letters {
         put_block(t, m, l, buf);
-        l += 1;
     }
 }
 

@@ -38,7 +38,7 @@ impl<'a> Record<'a> {
         ensures value { result ≡ states_of self.entry.bytes.now }
         ensures bound { result ≤ max_states }
     {
-        super::size(self.bytes[5])
+        usize::from(self.bytes[5])
     }
 
     // The number of letters.
@@ -46,7 +46,7 @@ impl<'a> Record<'a> {
         ensures value { result ≡ letters_of self.entry.bytes.now }
         ensures bound { (0 < result) × (result ≤ max_letters) }
     {
-        super::size(self.bytes[6])
+        usize::from(self.bytes[6])
     }
 
     // The initial states.

@@ -9,4 +9,4 @@ bounds-self-6 c = let f = (good_check _ c.args.self.well_formed).front in omega 
 pub returns-clause-bound : goal.returns-clause-bound
 returns-clause-bound c =
     let f = (good_check _ c.args.self.well_formed).front in
-    (omega (arith, f.some, c.size.ensures), omega (arith, f.letters, c.size.ensures))
+    (omega (arith, f.some, c.from.ensures), omega (arith, f.letters, c.from.ensures))

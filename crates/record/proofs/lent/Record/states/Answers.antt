@@ -7,4 +7,4 @@ pub bounds-self-5 : goal.bounds-self-5
 bounds-self-5 c = let f = (good_check _ c.args.self.well_formed).front in omega (arith, f.long)
 
 pub returns-clause-bound : goal.returns-clause-bound
-returns-clause-bound c = let f = (good_check _ c.args.self.well_formed).front in omega (arith, f.states, c.size.ensures)
+returns-clause-bound c = let f = (good_check _ c.args.self.well_formed).front in omega (arith, f.states, c.from.ensures)
