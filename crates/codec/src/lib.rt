@@ -14,68 +14,26 @@ ghost use Rattle.record.specs.Record.{max_states, max_letters, row_bytes, header
 ghost use Rattle.record.specs.Outcome.{fit, answer_of, buffer_of, rewrite_of};
 ghost use Rattle.record.specs.Held.{HeldUpTo, Holds};
 
-use record::{FINAL_AT, INITIAL_AT, ROW_BYTES, ROWS_AT, Refusal, Rule, VERSION};
+pub mod lent;
+
+use record::{FINAL_AT, INITIAL_AT, ROW_BYTES, ROWS_AT, Record, Refusal, Rule, VERSION};
 use rows::{Machine, Row, Table};
 
-// The rows of letter l, into block l.
-fn read_block(bytes: &[u8], l: usize, t: &mut Table)
-    requires { WellFormed bytes.now × (l < letters_of bytes.now) × HeldUpTo bytes.now t.old l 0 }
-    ensures { HeldUpTo bytes.now t.new l (states_of bytes.now) }
-{
-    let n = record::size(bytes[5]);
-    let first = l * n;
-    let mut i = 0;
-    while i < n {
-        rows::store(
-            t,
-            l,
-            i,
-            record::field_at(bytes, ROWS_AT + ROW_BYTES * (first + i)),
-        );
-        i += 1;
-    }
-}
-
-// A well-formed record read: its rows into a lent table, the rest into a machine.
+// The same for the bytes of a well-formed record.
 pub fn read(bytes: &[u8], t: &mut Table) -> Machine
     requires { WellFormed bytes.now × (length t.old ≡ table_size) }
     ensures { Holds bytes.now t.new result }
 {
-    let n = record::size(bytes[5]);
-    let a = record::size(bytes[6]);
-    let mut l = 0;
-    while l < a {
-        read_block(bytes, l, t);
-        l += 1;
-    }
-    Machine {
-        states: n,
-        letters: a,
-        initial: record::field_at(bytes, INITIAL_AT),
-        finals: record::field_at(bytes, FINAL_AT),
-    }
-}
-
-// The low byte of a number.
-fn low(x: u64) -> u8
-    ensures { result ≡ x % 256 }
-{
-    (x % 256) as u8
+    lent::read(Record { bytes }, t)
 }
 
 // The low four bytes of a row, at offset p.
 fn put_field(buf: &mut [u8], p: usize, x: Row)
-    requires { (p + row_bytes ≤ length buf.old) × (mask x < 2 ^ 64) }
+    requires { p + row_bytes ≤ length buf.old }
     ensures { buf.new ≡ sets buf.old p (bytes_of row_bytes (mask x)) }
 {
-    let x0 = rows::to_u64(x);
-    let x1 = x0 / 256;
-    let x2 = x1 / 256;
-    let x3 = x2 / 256;
-    buf[p] = low(x0);
-    buf[p + 1] = low(x1);
-    buf[p + 2] = low(x2);
-    buf[p + 3] = low(x3);
+    let bytes = u64::from(x).to_le_bytes();
+    buf[p..p + ROW_BYTES].copy_from_slice(&bytes[..ROW_BYTES]);
 }
 
 // Mark, version, n and a.
@@ -99,10 +57,8 @@ fn put_block(t: &Table, m: Machine, l: usize, buf: &mut [u8])
 {
     let n = m.states;
     let first = l * n;
-    let mut i = 0;
-    while i < n {
+    for i in 0..n {
         put_field(buf, ROWS_AT + ROW_BYTES * (first + i), rows::load(t, l, i));
-        i += 1;
     }
 }
 
@@ -111,11 +67,8 @@ fn put_rows(t: &Table, m: Machine, buf: &mut [u8])
     requires { Valid t.now m × (m.states ≤ max_states) × (length_of m.states m.letters ≤ length buf.old) }
     ensures { buf.new ≡ sets buf.old rows_at (all_bytes row_bytes (rows_of m.letters m.states (at t.now))) }
 {
-    let a = m.letters;
-    let mut l = 0;
-    while l < a {
+    for l in 0..m.letters {
         put_block(t, m, l, buf);
-        l += 1;
     }
 }
 
@@ -143,8 +96,8 @@ pub fn rewrite(bytes: &[u8], buf: &mut [u8]) -> Result<usize, Refusal>
     ensures answer { result ≡ answer_of (rewrite_of bytes.now (length buf.old)) }
     ensures buffer { buf.new ≡ buffer_of (rewrite_of bytes.now (length buf.old)) buf.old }
 {
-    record::check_as(bytes, 1)?;
+    let lent = Record::check_as(bytes, 1)?;
     let mut t = [0u64; 512];
-    let m = read(bytes, &mut t);
+    let m = lent::read(lent, &mut t);
     write(&t, m, buf)
 }

@@ -6,7 +6,6 @@ ghost use Rattle.std.specs.Prelude.{◌≡◌, ◌+◌, ◌≤◌, ◌<◌, leng
 ghost use Rattle.rows.specs.Row.{width, mask};
 ghost use Rattle.rows.specs.Table.{blocks, size};
 ghost use Rattle.rows.specs.Machine.{automaton_in, Valid};
-ghost use Rattle.lookup.specs.Lookup.{groups};
 ghost use Rattle.folding.specs.Folding.{UnitAt, LowAt, FoldedTo, FoldedBlocks, Folds};
 
 use basis::{Basis, WIDEST};
@@ -14,16 +13,16 @@ use lookup::Lookup;
 use rows::{Machine, Row, Table};
 
 // The rows of the pivots below n in block l, one after another, folded.
-fn fold_rows(p: Row, tab: &Lookup, g: usize, t: &mut Table, l: usize, n: usize)
-    requires { (l < blocks) × (n ≤ width) × (g ≤ groups) }
-    ensures { FoldedTo l n (mask p) g tab.now t.old t.new }
+fn fold_rows(p: Row, tab: &Lookup, t: &mut Table, l: usize, n: usize)
+    requires { (l < blocks) × (n ≤ width) }
+    ensures { FoldedTo l n (mask p) tab.now.groups tab.now.entries t.old t.new }
 {
     let mut z = rows::and(p, rows::below(n));
     let mut j: usize = 0;
     while !rows::is_none(z) {
         let k = rows::lowest(z);
         let x = rows::load(t, l, k);
-        let y = lookup::times(tab, g, x);
+        let y = tab.times(x);
         rows::store(t, l, j, y);
         j += 1;
         z = rows::clear_lowest(z);
@@ -31,12 +30,12 @@ fn fold_rows(p: Row, tab: &Lookup, g: usize, t: &mut Table, l: usize, n: usize)
 }
 
 // The rows of the first a blocks folded.
-fn fold_table(p: Row, tab: &Lookup, g: usize, t: &mut Table, a: usize, n: usize)
-    requires { (a ≤ blocks) × (n ≤ width) × (g ≤ groups) }
-    ensures { FoldedBlocks a n (mask p) g tab.now t.old t.new }
+fn fold_table(p: Row, tab: &Lookup, t: &mut Table, a: usize, n: usize)
+    requires { (a ≤ blocks) × (n ≤ width) }
+    ensures { FoldedBlocks a n (mask p) tab.now.groups tab.now.entries t.old t.new }
 {
     for l in 0..a {
-        fold_rows(p, tab, g, t, l, n);
+        fold_rows(p, tab, t, l, n);
     }
 }
 
@@ -53,11 +52,11 @@ pub fn fold(b: &Basis, p: Row, t: &mut Table, m: Machine, c: &mut Table) -> Mach
         return m;
     }
     let d = columns::columns(b, p, n, c);
-    let mut tab = [0u64; 256];
-    let g = lookup::fill(c, WIDEST, 0, all, &mut tab);
-    fold_table(p, &tab, g, t, a, n);
-    let i = lookup::times(&tab, g, m.initial);
-    let f = lookup::times(&tab, g, rows::and(m.finals, p));
+    let mut tab = Lookup::empty();
+    tab.fill(c, WIDEST, 0, all);
+    fold_table(p, &tab, t, a, n);
+    let i = tab.times(m.initial);
+    let f = tab.times(rows::and(m.finals, p));
     Machine {
         states: d,
         letters: a,

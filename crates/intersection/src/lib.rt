@@ -87,12 +87,12 @@ pub fn meet(first: &[u8], second: &[u8], out: &mut [u8]) -> Result<usize, Refusa
 {
     let mut room = [0; BLANK];
     let right = operands::meant(first, second, &mut room);
-    operands::check_pair(first, right)?;
+    let pair = operands::lent::check_pair(first, right)?;
     let mut t = [0u64; 512];
     let mut u = [0u64; 512];
     let mut s = [0u64; 512];
-    let g = minimal::minimal_form(first, &mut t);
-    let h = minimal::minimal_form(right, &mut u);
+    let g = minimal::minimal_form(pair.first.bytes, &mut t);
+    let h = minimal::minimal_form(pair.second.bytes, &mut u);
     let d = g.states * h.states;
     if MAX_PRODUCT < d {
         return Err(Rule::Product.of(0, d));

@@ -1,10 +1,9 @@
 -- What the first n bytes of a buffer are, and how long the parts of a line are.
 use mathlib.Core.Path.{◌≡◌, refl, ◌∙◌}
 use mathlib.Core.List.{List, [], ◌∷◌}
-use Prim.Native.Nat.{ℕ, ◌<◌, ◌≤◌}
+use Prim.Native.Nat.{ℕ, ◌<◌}
 use native.Mathlib.Omega.{arith}
 use lib.ListN.{length}
-use lib.Seq.{length-take-le}
 use Rattle.text.specs.Text.{word_text}
 use Rattle.text.proofs.Words.{word_length}
 use Rattle.lines.specs.Lines.{Begins}

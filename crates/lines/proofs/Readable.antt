@@ -2,13 +2,12 @@
 use mathlib.Core.Path.{◌≡◌, refl, sym, ap₂, ◌∙◌}
 use mathlib.Core.Bool.{Bool, true, false, cond}
 use mathlib.Core.List.{List, [], ◌∷◌, ◌++◌, append_assoc, append_cancel_left, append_cancel_right, map}
-use Prim.Native.Nat.{ℕ, zero, suc, ◌+◌, ◌/◌, ◌%◌, ◌<◌}
+use Prim.Native.Nat.{ℕ, zero, suc, ◌/◌, ◌%◌, ◌<◌}
 use native.Mathlib.Omega.{arith}
 use lib.Dec.{ltb}
 use Rattle.text.specs.Text.{ascii, digit, figures, decimal, word_text}
 use Rattle.text.proofs.Decimal.{decimal_injective}
 use Rattle.verdict.specs.declared.Side.{Side}
-use Rattle.compare.proofs.CompareLaws.{clash}
 use Rattle.verdict.specs.declared.Side.TheVariants.{First, Second}
 use Rattle.lines.specs.Lines.{opening, refused_line, dim_line, key_line, same_line, accepted_by, differ_line, too_long_line}
 
@@ -64,8 +63,8 @@ word_injective (l ∷ u) (m ∷ v) e = digits (l ∷ u) (m ∷ v) e
   where
     digits : (u v : List ℕ) → map digit u ≡ map digit v → u ≡ v
     digits [] [] e = refl
-    digits [] (l ∷ v) e = clash cc
-    digits (l ∷ u) [] e = clash cc
+    digits [] (l ∷ v) e = absurd (let z : ◌≡◌ {A = ℕ} 0 1 = cc in omega arith)
+    digits (l ∷ u) [] e = absurd (let z : ◌≡◌ {A = ℕ} 0 1 = cc in omega arith)
     digits (l ∷ u) (m ∷ v) e =
         let z : digit l ≡ digit m = cc in
         let y : l ≡ m = omega arith in
@@ -169,5 +168,5 @@ module _ (i n p : ℕ) where
   none_not_refused e = go (decimal i) (refusal n p) (e ∙ refused_fields i n p)
     where
       go : (xs : List ℕ) (rest : List ℕ) → [] ≡ xs ++ (32 ∷ rest) → ⊥
-      go [] rest q = clash cc
-      go (y ∷ xs) rest q = clash cc
+      go [] rest q = absurd (let z : ◌≡◌ {A = ℕ} 0 1 = cc in omega arith)
+      go (y ∷ xs) rest q = absurd (let z : ◌≡◌ {A = ℕ} 0 1 = cc in omega arith)

@@ -6,13 +6,13 @@ ghost use Rattle.automata.specs.Word.{Over};
 ghost use Rattle.record.specs.Outcome.{fit, answer_of, buffer_of};
 ghost use Rattle.lines.specs.Lines.{opening, refused_line, dim_line, differ_line, accepted_by, longest};
 
-use compare::Side;
-use record::Written;
+use record::{Refusal, Rule};
 use text::Line;
+use verdict::Side;
 
 // A line into a lent buffer, or refusal 12.
 #[tactic(auto, using(record::proofs::Outcome::fit_short, record::proofs::Outcome::fit_done))]
-pub fn give(line: &Line, out: &mut [u8]) -> Written
+pub fn give(line: &Line, out: &mut [u8]) -> Result<usize, Refusal>
     ensures answer { result ≡ answer_of (fit (length out.old) line.now) }
     ensures buffer { out.new ≡ buffer_of (fit (length out.old) line.now) out.old }
     ensures room { length line.now ≤ longest }
@@ -20,14 +20,10 @@ pub fn give(line: &Line, out: &mut [u8]) -> Written
     let bytes = line.bytes();
     let n = bytes.len();
     if out.len() < n {
-        return Written::Refused {
-            number: 12,
-            record: 0,
-            place: n,
-        };
+        return Err(Rule::NoRoom.of(0, n));
     }
     out[..n].copy_from_slice(bytes);
-    Written::Done { length: n }
+    Ok(n)
 }
 
 // How the line of a record starts: its index, words, and a number.

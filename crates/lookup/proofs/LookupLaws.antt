@@ -3,7 +3,7 @@ use mathlib.Core.Path.{◌≡◌, refl, sym, ap, ap₂, ◌∙◌}
 use mathlib.Core.Bool.{false, ◌&&◌, and_assoc}
 use mathlib.Core.List.{List}
 use Prim.Native.Nat.{ℕ, ◌+◌, ◌-◌, ◌*◌, ◌/◌, ◌%◌, ◌^◌, ◌<◌, ◌≤◌}
-use native.Mathlib.Nat.{add_comm, div-eq_of_lt, div-one, lt_of_le_of_lt, mod-lt, not-suc-le-zero, one-mul}
+use native.Mathlib.Nat.{add_comm, add-zero, pow-suc, div-eq_of_lt, div-one, lt_of_le_of_lt, mod-lt, not-suc-le-zero, one-mul}
 use native.Mathlib.Numerals.{add-one}
 use native.Mathlib.Decide.{dec_lt}
 use native.Mathlib.Omega.{arith}
@@ -18,7 +18,7 @@ use Rattle.automata.proofs.Below.{up_to}
 use Rattle.rows.specs.Product.{product}
 use Rattle.rows.proofs.BitLaws.{bit_none, bit_xor_lem, bit_and_lem, bit_when, bit_shr, bit_shl_low}
 use Rattle.rows.proofs.ProductLaws.{bit_product, product_by_bits, product_xor, product_unit}
-use Rattle.lookup.specs.Lookup.{lookup_size, chosen, entry, Tabled, Doubled, Grouped}
+use Rattle.lookup.specs.Lookup.{chosen, entry, Tabled, Doubled, Grouped}
 
 -- ---- products in parts
 
@@ -110,29 +110,34 @@ entries_double at c x N t s h e D E v g = go (dec_lt v (2 ^ c))
         back : bit_xor u (2 ^ c) ≡ v
         back = xor_comm u (2 ^ c) ∙ ap (λ w. bit_xor w u) (sym (one-mul (2 ^ c))) ∙ xor_shifted 1 c u low ∙ omega arith
 
--- What the calls give.
-pub grouped : (g : ℕ) (M : ℕ → ℕ) (t t₀ t₁ t₂ t₃ t₄ : List ℕ) (x₀ x₁ x₂ x₃ : ℕ) → length t ≡ lookup_size → g * 16 < lookup_size → t₀ ≡ set t (g * 16) 0 → x₀ ≡ M (g * 4) → x₁ ≡ M (g * 4 + 1) → x₂ ≡ M (g * 4 + 2) → x₃ ≡ M (g * 4 + 3)
-    → Doubled (g * 16) 1 1 x₀ t₀ t₁ → Doubled (g * 16) 2 2 x₁ t₁ t₂ → Doubled (g * 16) 4 4 x₂ t₂ t₃ → Doubled (g * 16) 8 8 x₃ t₃ t₄ → Grouped g M t t₄
-grouped g M t t₀ t₁ t₂ t₃ t₄ x₀ x₁ x₂ x₃ long inside e₀ h₀ h₁ h₂ h₃ D₁ D₂ D₃ D₄ = record {
-  entries = entries_double at 3 x₃ N t₃ t₄ (omega arith) h₃ D₄ (entries_double at 2 x₂ N t₂ t₃ (omega arith) h₂ D₃ (entries_double at 1 x₁ N t₁ t₂ (omega arith) h₁ D₂ (entries_double at 0 x₀ N t₀ t₁ (omega arith) (h₀ ∙ ap M first) D₁ none)));
-  lower = λ i h. D₄.lower i (omega arith) ∙ D₃.lower i (omega arith) ∙ D₂.lower i (omega arith) ∙ D₁.lower i (omega arith) ∙ ap (λ s. get_or s i 0) e₀ ∙ get_or-set_other t at i 0 0 (omega arith);
-  size = D₄.size ∙ D₃.size ∙ D₂.size ∙ D₁.size ∙ ap length e₀ ∙ length-set t at 0;
+-- Group g of the table t once the first i of its rows have doubled its entries.
+pub record Doubling (g : ℕ) (M : ℕ → ℕ) (i : ℕ) (t s : List ℕ) : Type 0 where
+  pub entries : Entries (g * 16) (λ j. M (g * 4 + j)) (2 ^ i) s
+  pub lower : (j : ℕ) → j < g * 16 → get_or s j 0 ≡ get_or t j 0
+  pub size : length s ≡ length t
+
+-- The first entry takes no row.
+pub doubling_none : (g : ℕ) (M : ℕ → ℕ) (t : List ℕ) → g * 16 < length t → Doubling g M 0 t (set t (g * 16) 0)
+doubling_none g M t h = record {
+  entries = λ v f.
+      let z : v ≡ 0 = omega arith in
+      rw (z, add-zero) (get_or-set_same t (g * 16) 0 0 h ∙ sym (product_none 4 0 (λ j. M (g * 4 + j)) (λ i p. bit_none i)));
+  lower = λ j f. get_or-set_other t (g * 16) j 0 0 (omega arith);
+  size = length-set t (g * 16) 0;
+}
+
+pub doubling_step : (g i h x : ℕ) (M : ℕ → ℕ) (t s s' : List ℕ) → i < 4 → h ≡ 2 ^ i → x ≡ M (g * 4 + i) → Doubled (g * 16) h h x s s' → Doubling g M i t s → Doubling g M (i + 1) t s'
+doubling_step g i h x M t s s' few eh ex D G = record {
+  entries = rw (twice i) (entries_double (g * 16) i x (λ j. M (g * 4 + j)) s s' few ex (rw eh at D) G.entries);
+  lower = λ j f. D.lower j (omega arith) ∙ G.lower j f;
+  size = D.size ∙ G.size;
 }
   where
-    at : ℕ
-    at = g * 16
+    twice : (i : ℕ) → 2 ^ (i + 1) ≡ 2 ^ i + 2 ^ i
+    twice i = rw (add-one i, pow-suc 2 i) (omega arith)
 
-    N : ℕ → ℕ
-    N i = M (g * 4 + i)
-
-    first : g * 4 ≡ g * 4 + 0
-    first = omega arith
-
-    none : Entries at N 1 t₀
-    none v h =
-        let z : v ≡ 0 = omega arith in
-        let p : at + v ≡ at = omega arith in
-        ap (λ i. get_or t₀ i 0) p ∙ ap (λ s. get_or s at 0) e₀ ∙ get_or-set_same t at 0 0 (omega arith) ∙ sym (ap (λ w. product 4 w N) z ∙ product_none 4 0 N (λ i p. bit_none i))
+pub doubling_end : (g : ℕ) (M : ℕ → ℕ) (t s : List ℕ) → Doubling g M 4 t s → Grouped g M t s
+doubling_end g M t s G = record { entries = G.entries; lower = G.lower; size = G.size }
 
 -- ---- the groups
 

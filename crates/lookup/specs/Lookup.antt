@@ -1,6 +1,7 @@
 -- Tables of the xors of rows: sixteen entries for every four rows of a matrix M, whose row i is M i.
 --   groups            how many fours of rows a table has room for
 --   chosen p M i      row i of M where p has bit i, else no bits
+--   Gives post M      what a function can return at i, if `post` says so, is row i: M i as a number
 --   Tabled k M t      in the first k groups of t, entry v is the xor of those of the four rows that the bits of v name
 --   Kept k M y        y is its own product with the first k fours of rows
 --   Doubled           after h entries from `at` on stand the first m of them, each with x added
@@ -8,6 +9,8 @@
 use Rattle.std.specs.Prelude.{◌≡◌, cond, List, ℕ, ◌+◌, ◌*◌, ◌<◌, length, get_or}
 use Rattle.std.specs.Int.Bits.{bit_xor}
 use Rattle.automata.specs.Mask.{bit_of}
+use Rattle.rows.specs.declared.Row.{Row}
+use Rattle.rows.specs.Row.{width, mask}
 use Rattle.rows.specs.Product.{product}
 
 abbrev pub groups : ℕ
@@ -18,6 +21,9 @@ lookup_size = 256
 
 abbrev pub chosen : ℕ → (ℕ → ℕ) → ℕ → ℕ
 chosen p M i = cond (bit_of p i) (M i) 0
+
+pub record Gives (post : ℕ → Row → Type 0) (M : ℕ → ℕ) : Type 0 where
+  pub row : (i : ℕ) (r : Row) → i < width → post i r → mask r ≡ M i
 
 -- Entry v of group g, by the rows that it takes.
 abbrev pub entry : (ℕ → ℕ) → ℕ → ℕ → ℕ

@@ -8,20 +8,18 @@ use native.Mathlib.Omega.{arith}
 use lib.Dec.{eqb}
 use lib.ListN.{length}
 use Rattle.record.specs.Record.{check_of}
-use Rattle.record.specs.declared.Checked.{Checked}
-use Rattle.record.specs.declared.Checked.TheVariants.{Good, Refused as Bad}
-use Rattle.script.specs.Script.{part_at, bytes_at}
-use Rattle.script.specs.declared.Part.{Part}
-use Rattle.script.specs.declared.Part.TheVariants.{Whole, Refused, End}
+use Rattle.std.specs.Prelude.{None, Some, Ok, Err}
+use Rattle.record.specs.Rules.{Check}
+use Rattle.script.specs.Script.{Part, part_at, bytes_at}
 use Rattle.script.proofs.Parts.{whole_stands}
 use Rattle.walk.specs.Walk.{on_good, past_part, past_of, place_of}
 use Rattle.marking.specs.Marking.{max_script, mark_line}
 use Rattle.marking.proofs.Cases.{long_later, line_end}
 
 -- Where marking goes on short of the script's end, it has passed a record.
-goes_past : (b : Bool) (c : Checked) (next end least : ℕ) → least ≤ next → cond b (on_good c next end) next < end → least ≤ cond b (on_good c next end) next
-goes_past true Good next end least h q = h
-goes_past true (Bad number place) next end least h q = absurd (omega arith)
+goes_past : (b : Bool) (c : Check) (next end least : ℕ) → least ≤ next → cond b (on_good c next end) next < end → least ≤ cond b (on_good c next end) next
+goes_past true (Ok u) next end least h q = h
+goes_past true (Err f) next end least h q = absurd (omega arith)
 goes_past false c next end least h q = h
 
 past_far : (s : List ℕ) (index at : ℕ) → past_of s index at < length s → at + 15 ≤ past_of s index at
@@ -29,11 +27,11 @@ unfolding past_of
 past_far s index at = go (part_at s at) refl
   where
     go : (p : Part) → part_at s at ≡ p → past_part s index p < length s → at + 15 ≤ past_part s index p
-    go (Whole start next) e h =
-        let w = whole_stands s at start next e in
-        goes_past (eqb index 0) (check_of (bytes_at s start next)) next (length s) (at + 15) (omega (arith, w.here, w.long)) h
-    go (Refused number place) e h = absurd (omega arith)
-    go End e h = absurd (omega arith)
+    go (Some (Ok w)) e h =
+        let p = whole_stands s at w.start w.next e in
+        goes_past (eqb index 0) (check_of (bytes_at s w.start w.next)) w.next (length s) (at + 15) (omega (arith, p.here, p.long)) h
+    go (Some (Err f)) e h = absurd (omega arith)
+    go None e h = absurd (omega arith)
 
 place_far : (s : List ℕ) (i : ℕ) → place_of s i < length s → 15 * i ≤ place_of s i
 unfolding place_of

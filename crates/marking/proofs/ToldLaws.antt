@@ -11,12 +11,13 @@ use Rattle.automata.proofs.FirstDifference.{difference_none, difference_some, no
 use Rattle.record.specs.Record.{letters_of, WellFormed, automaton_of, language_of}
 use Rattle.record.specs.Claims.{HasDimension, Operands}
 use Rattle.record.specs.Outcome.{answer_of, buffer_of, fit}
-use Rattle.record.specs.declared.Written.{Written}
-use Rattle.record.specs.declared.Written.TheVariants.{Done}
+use Rattle.std.specs.Prelude.{Result, Ok}
+use Rattle.record.specs.declared.Refusal.{Refusal}
 use Rattle.record.proofs.Outcome.{fit_bytes}
 use Rattle.operands.proofs.PairLaws.{both_pass}
 use Rattle.operands.proofs.Numbers.{pair_numbers}
-use Rattle.compare.specs.Compare.{difference_of, side_of, Differ}
+use Rattle.verdict.specs.Side.{side_of}
+use Rattle.compare.specs.Compare.{difference_of, Differ}
 use Rattle.compare.proofs.CompareLaws.{clash}
 use Rattle.compare.proofs.Claims.{accepted, side_named}
 use Rattle.script.specs.Script.{part_at, after_part, bytes_at}
@@ -109,9 +110,9 @@ told s index line short e = record {
 }
 
 -- What the service claims follows from the answer and the buffer.
-pub marks : (s : List ℕ) (index : ℕ) (buf exit : List ℕ) (r : Written) → r ≡ answer_of (fit (length buf) (mark_line s index)) → exit ≡ buffer_of (fit (length buf) (mark_line s index)) buf
+pub marks : (s : List ℕ) (index : ℕ) (buf exit : List ℕ) (r : Result ℕ Refusal) → r ≡ answer_of (fit (length buf) (mark_line s index)) → exit ≡ buffer_of (fit (length buf) (mark_line s index)) buf
     → Marks s index exit r × SaysRefused pair_numbers exit r
 marks s index buf exit r answer buffer = (λ short n e. told s index (take n exit) short (line n e), λ n e i k p q. mark_refusals s index i k p (sym (line n e) ∙ q))
   where
-    line : (n : ℕ) → r ≡ Done n → take n exit ≡ mark_line s index
+    line : (n : ℕ) → r ≡ Ok n → take n exit ≡ mark_line s index
     line n e = ap (take n) buffer ∙ fit_bytes (length buf) n (mark_line s index) buf (sym answer ∙ e)

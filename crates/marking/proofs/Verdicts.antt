@@ -7,22 +7,24 @@ use Prim.Native.Nat.{ℕ, ◌≤◌}
 use native.Mathlib.Omega.{arith}
 use Rattle.record.specs.Record.{language_of}
 use Rattle.operands.specs.Operands.{pair_of}
-use Rattle.operands.specs.declared.Pair.TheVariants.{Both, Refused as NotBoth}
-use Rattle.compare.specs.Compare.{difference_of, side_of}
+use Rattle.std.specs.Prelude.{Ok, Err}
+use Rattle.record.specs.Rules.{fault}
+use Rattle.record.specs.declared.Refusal.{Refusal}
+use Rattle.verdict.specs.Side.{side_of}
 use Rattle.verdict.specs.declared.Side.{Side}
-use Rattle.compare.specs.declared.Compared.TheVariants.{Refused}
+use Rattle.compare.specs.Compare.{difference_of}
 use Rattle.compare.proofs.CompareLaws.{Written, Case}
-use Rattle.lines.specs.Lines.{refused_line, same_line, differ_line}
-use Rattle.marking.specs.Marking.{dimension_in, answer_line}
+use Rattle.lines.specs.Lines.{same_line, differ_line}
+use Rattle.marking.specs.Marking.{dimension_in, fault_line, answer_line}
 
 -- ---- the cases of an answer's line
 
 module _ (index : ℕ) (key answer : List ℕ) where
-  pub answer_refused : (number which place : ℕ) → pair_of key answer ≡ NotBoth number which place → answer_line index key answer ≡ refused_line index number place
+  pub answer_refused : (r : Refusal) → pair_of key answer ≡ Err r → answer_line index key answer ≡ fault_line index (fault r.rule r.place)
   unfolding answer_line
-  answer_refused number which place e = rw e
+  answer_refused r e = rw e
 
-  module _ (both : pair_of key answer ≡ Both) where
+  module _ (both : pair_of key answer ≡ Ok tt) where
     pub answer_same : difference_of key answer ≡ none → answer_line index key answer ≡ same_line index (dimension_in answer)
     unfolding answer_line
     answer_same e = rw (both, e)
@@ -41,6 +43,6 @@ found_line index key answer {side = side} f {d} {v} e h =
     ∙ sym (answer_differs index key answer w.both w.word w.found)
 
 -- With room for 64 letters no word is withheld: a refusal is one of the checks.
-pub checks_refused : (key answer : List ℕ) (room number which place : ℕ) → 64 ≤ room → Case key answer room (Refused number which place) → pair_of key answer ≡ NotBoth number which place
-checks_refused key answer room number which place large (inl e) = e
-checks_refused key answer room number which place large (inr k) = absurd (omega (arith, k.less, k.difference.short.0))
+pub checks_refused : (key answer : List ℕ) (room : ℕ) (r : Refusal) → 64 ≤ room → Case key answer room (Err r) → pair_of key answer ≡ Err r
+checks_refused key answer room r large (inl e) = e
+checks_refused key answer room r large (inr k) = absurd (omega (arith, k.less, k.difference.short.0))

@@ -1,25 +1,23 @@
 -- Marking a script (01: Marking a script): the line of the record of each index, and the marking service.
 --   dimension_in bs            the dimension of a record's language
+--   fault_line index f         the line of a record that is refused
 --   key_of s                   the bytes of a script's first record
 --   record_line s index bs     the line of a record that stands whole, as that of an index
 --   part_line s index p        the line of a part of the script: of a record, of a refusal, or none at the end
 --   line_at s index at         the line of what stands at a position, as that of an index
 --   mark_line s index          the line of an index, no bytes where there is none
 --   mark_outcome s index room  what the service does with a buffer of so many bytes
-use Rattle.std.specs.Prelude.{cond, List, [], ℕ, ltb, eqb, length, take}
+use Rattle.std.specs.Prelude.{cond, List, [], ℕ, ltb, eqb, length, take, None, Some, Ok, Err}
 use Rattle.std.proofs.Math.Option.{Option, none, some}
 use Rattle.automata.specs.MinimalOf.{dimension_of}
 use Rattle.record.specs.Record.{letters_of, check_of, automaton_of, language_of}
 use Rattle.record.specs.Outcome.{Outcome, fit}
-use Rattle.record.specs.declared.Checked.{Checked}
-use Rattle.record.specs.declared.Checked.TheVariants.{Good, Refused as Bad}
+use Rattle.record.specs.Rules.{number_of, Check, Checks, fault}
+use Rattle.record.specs.declared.Fault.{Fault}
 use Rattle.operands.specs.Operands.{pair_of}
-use Rattle.operands.specs.declared.Pair.{Pair}
-use Rattle.operands.specs.declared.Pair.TheVariants.{Both, Refused as NotBoth}
-use Rattle.compare.specs.Compare.{difference_of, side_of}
-use Rattle.script.specs.Script.{part_at, after_part, bytes_at}
-use Rattle.script.specs.declared.Part.{Part}
-use Rattle.script.specs.declared.Part.TheVariants.{Whole, Refused, End}
+use Rattle.verdict.specs.Side.{side_of}
+use Rattle.compare.specs.Compare.{difference_of}
+use Rattle.script.specs.Script.{Part, part_at, after_part, bytes_at}
 use Rattle.walk.specs.Walk.{place_of}
 use Rattle.lines.specs.Lines.{refused_line, key_line, same_line, differ_line, too_long_line}
 
@@ -31,10 +29,13 @@ dimension_in bs = dimension_of (letters_of bs) (automaton_of bs)
 
 -- ---- the line of a record
 
+abbrev pub fault_line : ℕ → Fault → List ℕ
+fault_line index f = refused_line index (number_of f.rule) f.place
+
 -- A record's refusal is told in its line.
-abbrev pub checked_line : Checked → List ℕ → List ℕ
-checked_line Good rest = rest
-checked_line (Bad number place) rest = refused_line 0 number place
+abbrev pub checked_line : Check → List ℕ → List ℕ
+checked_line (Ok u) rest = rest
+checked_line (Err f) rest = fault_line 0 f
 
 unfoldable pub key_record_line : List ℕ → List ℕ
 key_record_line key = checked_line (check_of key) (key_line (dimension_in key))
@@ -43,9 +44,9 @@ abbrev pub verdict_line : ℕ → List ℕ → ℕ → Option (List ℕ) → Lis
 verdict_line index key d none = same_line index d
 verdict_line index key d (some w) = differ_line index d w (side_of (language_of key w))
 
-abbrev pub paired_line : ℕ → Pair → List ℕ → List ℕ
-paired_line index Both rest = rest
-paired_line index (NotBoth number which place) rest = refused_line index number place
+abbrev pub paired_line : ℕ → Checks → List ℕ → List ℕ
+paired_line index (Ok u) rest = rest
+paired_line index (Err r) rest = fault_line index (fault r.rule r.place)
 
 -- Rows 1 to 8 of the two; then the verdict, with the answer's own dimension.
 unfoldable pub answer_line : ℕ → List ℕ → List ℕ → List ℕ
@@ -64,9 +65,9 @@ record_line s index bs = cond (eqb index 0) (key_record_line bs) (answer_line in
 
 -- With 0 bytes left marking ends, so a script of 0 bytes has no lines.
 abbrev pub part_line : List ℕ → ℕ → Part → List ℕ
-part_line s index (Whole start next) = record_line s index (bytes_at s start next)
-part_line s index (Refused number place) = refused_line index number place
-part_line s index End = []
+part_line s index (Some (Ok w)) = record_line s index (bytes_at s w.start w.next)
+part_line s index (Some (Err f)) = fault_line index f
+part_line s index None = []
 
 -- A script that is too long has one line.
 unfoldable pub line_at : List ℕ → ℕ → ℕ → List ℕ

@@ -7,16 +7,14 @@
 --   Marks s index exit r              what is claimed of the marking service's answer r and the buffer at exit
 --   RefusedWith ns line               where a line says `refused`, its number is one of ns
 --   SaysRefused ns exit r             the same of the line that the service's answer r grants
-use Rattle.std.specs.Prelude.{◌≡◌, List, ℕ, ◌<◌, ◌≤◌, length, take}
+use Rattle.std.specs.Prelude.{◌≡◌, List, ℕ, ◌<◌, ◌≤◌, length, take, Some, Result, Ok}
 use Rattle.automata.specs.Count.{Member}
 use Rattle.record.specs.Record.{WellFormed}
 use Rattle.record.specs.Claims.{HasDimension, Operands, SameWords}
-use Rattle.record.specs.declared.Written.{Written}
-use Rattle.record.specs.declared.Written.TheVariants.{Done}
-use Rattle.compare.specs.Compare.{Differ}
+use Rattle.record.specs.declared.Refusal.{Refusal}
 use Rattle.verdict.specs.declared.Side.{Side}
-use Rattle.script.specs.Script.{part_at, bytes_at}
-use Rattle.script.specs.declared.Part.TheVariants.{Whole}
+use Rattle.compare.specs.Compare.{Differ}
+use Rattle.script.specs.Script.{part_at, bytes_at, whole}
 use Rattle.lines.specs.Lines.{refused_line, key_line, same_line, differ_line}
 use Rattle.walk.specs.Walk.{place_of}
 use Rattle.marking.specs.Marking.{max_script}
@@ -25,7 +23,7 @@ use Rattle.marking.specs.Marking.{max_script}
 pub record RecordAt (s : List ℕ) (index : ℕ) (bs : List ℕ) : Type 0 where
   pub start : ℕ
   pub next : ℕ
-  pub whole : part_at s (place_of s index) ≡ Whole start next
+  pub whole : part_at s (place_of s index) ≡ Some (Ok (whole start next))
   pub bytes : bs ≡ bytes_at s start next
 
 abbrev pub KeyTold : List ℕ → List ℕ → Type 0
@@ -43,12 +41,12 @@ pub record Told (s : List ℕ) (index : ℕ) (line : List ℕ) : Type 0 where
       → Operands key answer → AnswerTold index key answer line
 
 -- Of the marking service, for a script that is not too long: where the answer grants, the line written tells it.
-abbrev pub Marks : List ℕ → ℕ → List ℕ → Written → Type 0
-Marks s index exit r = length s ≤ max_script → (n : ℕ) → r ≡ Done n → Told s index (take n exit)
+abbrev pub Marks : List ℕ → ℕ → List ℕ → Result ℕ Refusal → Type 0
+Marks s index exit r = length s ≤ max_script → (n : ℕ) → r ≡ Ok n → Told s index (take n exit)
 
 abbrev pub RefusedWith : List ℕ → List ℕ → Type 0
 RefusedWith ns line = (index number place : ℕ) → line ≡ refused_line index number place → Member number ns
 
 -- Of the marking service, whatever the script.
-abbrev pub SaysRefused : List ℕ → List ℕ → Written → Type 0
-SaysRefused ns exit r = (n : ℕ) → r ≡ Done n → RefusedWith ns (take n exit)
+abbrev pub SaysRefused : List ℕ → List ℕ → Result ℕ Refusal → Type 0
+SaysRefused ns exit r = (n : ℕ) → r ≡ Ok n → RefusedWith ns (take n exit)

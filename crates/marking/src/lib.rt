@@ -6,12 +6,10 @@ ghost use Rattle.record.specs.Record.{WellFormed};
 ghost use Rattle.record.specs.Outcome.{fit, answer_of, buffer_of, answer_in, buffer_in};
 ghost use Rattle.script.specs.Script.{part_at};
 ghost use Rattle.lines.specs.Lines.{longest};
-ghost use Rattle.marking.specs.Marking.{dimension_in, key_record_line, answer_line, record_line, part_line, line_at, mark_line, mark_outcome};
+ghost use Rattle.marking.specs.Marking.{dimension_in, fault_line, key_record_line, answer_line, record_line, part_line, line_at, mark_line, mark_outcome};
 ghost use Rattle.marking.specs.Told.{Marks, SaysRefused};
 
-use compare::Compared;
-use record::{Checked, Written};
-use script::Part;
+use record::{Fault, Refusal};
 use text::Line;
 
 const MAX_SCRIPT: usize = 65536;
@@ -26,17 +24,24 @@ fn dimension(bytes: &[u8]) -> usize
     m.states
 }
 
+// The line of a record that is refused, as that of an index.
+fn fault_line(index: usize, fault: Fault) -> Line
+    ensures { result ≡ fault_line index fault }
+{
+    lines::refused_line(index, fault.rule.number(), fault.place)
+}
+
 // The line of the key.
 #[tactic(auto, unfolding(crate::specs::Marking::key_record_line))]
 fn key_line(key: &[u8]) -> Line
     ensures { result ≡ key_record_line key.now }
 {
     match record::check(key) {
-        Checked::Good => {
+        Ok(()) => {
             let d = dimension(key);
             lines::dim_line(0, b" key dim ", d)
         }
-        Checked::Refused { number, place } => lines::refused_line(0, number, place),
+        Err(fault) => fault_line(0, fault),
     }
 }
 
@@ -48,19 +53,15 @@ fn answer_line(index: usize, key: &[u8], answer: &[u8]) -> Line
 {
     let mut word = [0u8; 64];
     match compare::compare(key, answer, &mut word) {
-        Compared::Same => {
+        Ok(None) => {
             let d = dimension(answer);
             lines::dim_line(index, b" same dim ", d)
         }
-        Compared::Differs { length, side } => {
+        Ok(Some(found)) => {
             let own = dimension(answer);
-            lines::differ_line(index, own, &word[..length], side)
+            lines::differ_line(index, own, &word[..found.length], found.side)
         }
-        Compared::Refused {
-            number,
-            record: _,
-            place,
-        } => lines::refused_line(index, number, place),
+        Err(refusal) => fault_line(index, refusal.rule.at(refusal.place)),
     }
 }
 
@@ -82,9 +83,9 @@ fn part_line(script: &[u8], index: usize, at: usize) -> Line
     ensures { result ≡ part_line script.now index (part_at script.now at) }
 {
     match script::part_at(script, at) {
-        Part::Whole { start, next } => record_line(script, index, &script[start..next]),
-        Part::Refused { number, place } => lines::refused_line(index, number, place),
-        Part::End => Line::new(),
+        Some(Ok(whole)) => record_line(script, index, &script[whole.start..whole.next]),
+        Some(Err(fault)) => fault_line(index, fault),
+        None => Line::new(),
     }
 }
 
@@ -104,7 +105,7 @@ fn script_line(script: &[u8], index: usize, at: usize) -> Line
 }
 
 // Writes the line of what stands at a position, as the record of an index: what a walk through a script calls, with `walk::past`.
-pub fn line_at(script: &[u8], index: usize, at: usize, out: &mut [u8]) -> Written
+pub fn line_at(script: &[u8], index: usize, at: usize, out: &mut [u8]) -> Result<usize, Refusal>
     ensures answer { result ≡ answer_of (fit (length out.old) (line_at script.now index at)) }
     ensures buffer { out.new ≡ buffer_of (fit (length out.old) (line_at script.now index at)) out.old }
     ensures room { length (line_at script.now index at) ≤ longest }
@@ -119,7 +120,7 @@ pub fn line_at(script: &[u8], index: usize, at: usize, out: &mut [u8]) -> Writte
 // dimension of its language. An answer's line says `same` exactly when the key accepts the same words; otherwise its word is the
 // first in shortlex order that just one of the two accepts, the one named accepts it, and the dimension is the answer's own.
 // `refusals`: a line says `refused` only with these numbers.
-pub fn mark(script: &[u8], index: usize, out: &mut [u8]) -> Written
+pub fn mark(script: &[u8], index: usize, out: &mut [u8]) -> Result<usize, Refusal>
     ensures answer { result ≡ answer_in (mark_outcome script.now index) out.old }
     ensures buffer { out.new ≡ buffer_in (mark_outcome script.now index) out.old }
     ensures room { length (mark_line script.now index) ≤ longest }

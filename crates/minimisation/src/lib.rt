@@ -9,7 +9,7 @@ ghost use Rattle.basis.specs.Basis.{basis_size};
 ghost use Rattle.minimisation.specs.Minimises.{MinimisesUpTo};
 
 use basis::Basis;
-use rows::{Machine, Table};
+use rows::{Machine, Source, Table};
 
 // The minimal automaton of t and m, its rows in c; of one with more than `most` states only their number. The table t is left with the
 // folded automaton, and the basis b is for work.
@@ -17,22 +17,21 @@ pub fn minimise(t: &mut Table, m: Machine, b: &mut Basis, c: &mut Table, most: u
     requires { Valid t.old m × (length b.old ≡ basis_size) × (length c.old ≡ size) }
     ensures { (result.letters ≡ m.letters) × MinimisesUpTo m.letters (automaton_in t.old m) c.new most result.states (mask result.initial) (mask result.finals) }
 {
-    let a = m.letters;
-    let n = m.states;
-    let i = m.initial;
-    let f = m.finals;
-    transpose::transposed(t, a, n, c);
-    let s = observation::explore(
-        c,
-        Machine {
-            states: n,
-            letters: a,
-            initial: f,
-            finals: i,
+    transpose::transposed(t, m.letters, m.states, c);
+    let mirror = Source {
+        table: c,
+        machine: Machine {
+            states: m.states,
+            letters: m.letters,
+            initial: m.finals,
+            finals: m.initial,
         },
-        b,
-    );
-    let p = s.pivots;
-    let g = folding::fold(b, p, t, m, c);
-    reduction::reduce(t, g, b, c, most)
+    };
+    let s = observation::explore(mirror, b);
+    let g = folding::fold(b, s.pivots, t, m, c);
+    let folded = Source {
+        table: t,
+        machine: g,
+    };
+    reduction::reduce(folded, b, c, most)
 }

@@ -8,17 +8,20 @@
 --   Grown        rows found stay, and what was an xor of them still is one
 --   Expanded     what is left once row k is tried
 --   Explored     every row is tried, or as many rows are found as there are states
+-- FoundBy, ExpandedBy and ExploredBy say the same of the automaton that stands in a lent table, and of the size of the basis.
 use Rattle.std.specs.Prelude.{◌≡◌, Bool, false, List, [], ◌∷◌, ◌⊎◌, ℕ, ◌<◌, ◌≤◌, length}
 use Rattle.automata.specs.Xor.{comb}
 use Rattle.automata.specs.Automaton.{Automaton}
 use Rattle.automata.specs.Mask.{bit_of}
 use Rattle.automata.specs.Row.{times}
 use Rattle.automata.specs.Word.{Over}
-use Rattle.rows.specs.Row.{width}
+use Rattle.rows.specs.declared.source.Source.{Source}
+use Rattle.rows.specs.Row.{width, mask}
 use Rattle.rows.specs.Table.{at}
 use Rattle.rows.specs.Product.{product}
 use Rattle.rows.specs.Machine.{auto}
 use Rattle.basis.specs.Basis.{basis_size, cell, bits}
+use Rattle.elimination.specs.declared.Size.{Size}
 use Rattle.elimination.specs.Place.{BasisIn, Covered}
 
 abbrev pub along : Automaton → List ℕ → ℕ → Bool
@@ -56,3 +59,12 @@ pub record Expanded (a : ℕ) (t : List ℕ) (n i f : ℕ) (b : List ℕ) (d k :
 pub record Explored (a : ℕ) (t : List ℕ) (n i f : ℕ) (b : List ℕ) (d p v : ℕ) : Type 0 where
   pub found : Found a t n i f b d p v
   pub enough : ((k : ℕ) → k < d → Tried a t n b d k) ⊎ (d ≡ n)
+
+abbrev pub FoundBy : Source → List ℕ → Size → Type 0
+FoundBy x b s = let m = x.machine in Found m.letters x.table.now m.states (mask m.initial) (mask m.finals) b s.count (mask s.pivots) (mask s.used)
+
+abbrev pub ExpandedBy : Source → List ℕ → ℕ → ℕ → List ℕ → Size → Type 0
+ExpandedBy x b d k b' s = let m = x.machine in Expanded m.letters x.table.now m.states (mask m.initial) (mask m.finals) b d k b' s.count (mask s.pivots) (mask s.used)
+
+abbrev pub ExploredBy : Source → List ℕ → Size → Type 0
+ExploredBy x b s = let m = x.machine in Explored m.letters x.table.now m.states (mask m.initial) (mask m.finals) b s.count (mask s.pivots) (mask s.used)

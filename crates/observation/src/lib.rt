@@ -2,29 +2,25 @@
 // are the columns that words reach.
 #![tactic(auto)]
 
-ghost use Rattle.std.specs.Prelude.{◌≡◌, true, ◌^◌, ◌≤◌, ◌<◌, length};
+ghost use Rattle.std.specs.Prelude.{◌≡◌, true, ◌^◌, ◌≤◌, ◌<◌};
 ghost use Rattle.automata.specs.Mask.{bit_of};
 ghost use Rattle.rows.specs.Row.{width, mask};
-ghost use Rattle.rows.specs.Machine.{Valid};
-ghost use Rattle.basis.specs.Basis.{basis_size};
-ghost use Rattle.observation.specs.Explore.{Found, Expanded, Explored};
+ghost use Rattle.observation.specs.Explore.{FoundBy, ExpandedBy, ExploredBy};
 
 use basis::{Basis, WIDEST};
 use elimination::Size;
-use rows::{Machine, Row, Table};
+use rows::{Row, Source};
 
 // Row k of the basis by every letter.
-fn explore_row(t: &Table, m: Machine, b: &mut Basis, s: Size, k: usize) -> Size
-    requires { Valid t.now m × Found m.letters t.now m.states (mask m.initial) (mask m.finals) b.old s.count (mask s.pivots) (mask s.used) × (k < s.count) }
-    ensures { Expanded m.letters t.now m.states (mask m.initial) (mask m.finals) b.old s.count k b.new result.count (mask result.pivots) (mask result.used) }
+fn explore_row(x: Source, b: &mut Basis, s: Size, k: usize) -> Size
+    requires { FoundBy x b.old s × (k < s.count) }
+    ensures { ExpandedBy x.entry b.old s.count k b.new result }
 {
-    let a = m.letters;
-    let mut y = [0u64; 8];
-    reduction::multiply(t, a, b, k, &mut y);
+    let y = reduction::multiply(x, b, k);
     let mut r = s;
-    for l in 0..a {
+    for l in 0..x.machine.letters {
         let z = kernels::pick(&y, l);
-        r = elimination::insert(b, WIDEST, m.states, r, z);
+        r = elimination::insert(b, WIDEST, x.machine.states, r, z);
     }
     r
 }
@@ -49,31 +45,37 @@ fn next(todo: Row, d: usize, a: usize) -> usize
 }
 
 // Every row by every letter, in any order. As many rows as there are states span every row, so that no product is needed then.
-fn explore_rows(t: &Table, m: Machine, b: &mut Basis, s: Size) -> Size
-    requires { Valid t.now m × Found m.letters t.now m.states (mask m.initial) (mask m.finals) b.old s.count (mask s.pivots) (mask s.used) }
-    ensures { Explored m.letters t.now m.states (mask m.initial) (mask m.finals) b.new result.count (mask result.pivots) (mask result.used) }
+fn explore_rows(x: Source, b: &mut Basis, s: Size) -> Size
+    requires { FoundBy x b.old s }
+    ensures { ExploredBy x.entry b.new result }
 {
-    let n = m.states;
-    let a = m.letters;
+    let n = x.machine.states;
+    let a = x.machine.letters;
     let mut r = s;
     let mut done = rows::none();
+    // Rows are found on the way, and any of those left may be next: the loop goes over no range.
     while r.count < n {
         let todo = rows::xor(rows::below(r.count), done);
         if rows::is_none(todo) {
             return r;
         }
         let k = next(todo, r.count, a);
-        r = explore_row(t, m, b, r, k);
+        r = explore_row(x, b, r, k);
         done = rows::or(done, rows::unit(k));
     }
     r
 }
 
 // A basis of the rows that words reach, left in b.
-pub fn explore(t: &Table, m: Machine, b: &mut Basis) -> Size
-    requires { Valid t.now m × (length b.old ≡ basis_size) }
-    ensures { Explored m.letters t.now m.states (mask m.initial) (mask m.finals) b.new result.count (mask result.pivots) (mask result.used) }
+pub fn explore(x: Source, b: &mut Basis) -> Size
+    ensures { ExploredBy x.entry b.new result }
 {
-    let s = elimination::insert(b, WIDEST, m.states, Size::empty(), m.initial);
-    explore_rows(t, m, b, s)
+    let s = elimination::insert(
+        b,
+        WIDEST,
+        x.machine.states,
+        Size::empty(),
+        x.machine.initial,
+    );
+    explore_rows(x, b, s)
 }

@@ -9,6 +9,7 @@ use lib.Dec.{eqb}
 use Rattle.record.specs.Record.{letters_of, check_of, WellFormed}
 use Rattle.std.specs.Prelude.{Ok, Err}
 use Rattle.record.specs.Rules.{number_of, Check, Checks, fault, refusal, refusal_of}
+use Rattle.record.specs.declared.lent.Pair.{Pair}
 use Rattle.record.specs.declared.Rule.{Rule}
 use Rattle.record.specs.declared.Rule.TheVariants.{UnlikeLetters}
 use Rattle.record.specs.declared.Fault.{Fault}
@@ -49,6 +50,13 @@ module _ (bs cs : List ℕ) where
       pub both_pass : letters_of bs ≡ letters_of cs → pair_of bs cs ≡ Ok tt
       unfolding pair_of
       both_pass h = rw (one, two, eq-eqb (letters_of bs) (letters_of cs) h)
+
+  -- A pair has passed.
+  pub pair_good : (p : Pair) → p.first.bytes.now ≡ bs → p.second.bytes.now ≡ cs → Ok tt ≡ pair_of bs cs
+  pair_good p e f =
+      let one = rw e at p.first.well_formed in
+      let two = rw f at p.second.well_formed in
+      sym (both_pass one two (rw (e, f) at (sym p.alike)))
 
   -- Both are well formed, over the same letters.
   pub both_passed : pair_of bs cs ≡ Ok tt → Operands bs cs

@@ -6,7 +6,9 @@ ghost use Rattle.record.specs.Record.{letters_of};
 ghost use Rattle.operands.specs.Meant.{blank_of, meant_over};
 ghost use Rattle.operands.specs.Operands.{pair_of};
 
-use record::{ROWS_AT, Refusal, Rule, VERSION};
+pub mod lent;
+
+use record::{ROWS_AT, Refusal, VERSION};
 
 // The bytes of a record with no states: it ends where its rows would start.
 pub const BLANK: usize = ROWS_AT;
@@ -42,14 +44,10 @@ pub fn meant<'a>(first: &[u8], second: &'a [u8], room: &'a mut [u8; BLANK]) -> &
     second
 }
 
-// Rows 1 to 7 of the first record, then of the second, then row 8.
+// The same, where the bytes are all that is needed of both.
 pub fn check_pair(first: &[u8], second: &[u8]) -> Result<(), Refusal>
     ensures { result ≡ pair_of first.now second.now }
 {
-    record::check_as(first, 1)?;
-    record::check_as(second, 2)?;
-    if first[6] != second[6] {
-        return Err(Rule::UnlikeLetters.of(2, 6));
-    }
+    lent::check_pair(first, second)?;
     Ok(())
 }

@@ -18,13 +18,12 @@ ghost use Rattle.rows.specs.Machine.{Valid};
 ghost use Rattle.direct_sum.specs.Filled.{Filled};
 ghost use Rattle.record.specs.Record.{letters_of, language_of};
 ghost use Rattle.record.specs.Outcome.{answer_in, buffer_in};
-ghost use Rattle.record.specs.Claims.{Operands};
 ghost use Rattle.operands.specs.Meant.{as_meant};
 ghost use Rattle.results.specs.Built.{held_words, Built};
 ghost use Rattle.operations.specs.Operations.{sum_outcome, product_outcome, binary_outcome, unary_outcome, complement_outcome, mirror_outcome, Sums, GivesProduct, Combines, Operates, Complements, Mirrors};
 
 use operands::BLANK;
-use record::Refusal;
+use record::{Pair, Record, Refusal};
 use rows::{Machine, Row, Table};
 
 // An operation on two records, by the words of the result and by an automaton for them with the states of both. Sum and product share the
@@ -174,13 +173,13 @@ impl Unary for Reversal {
     }
 }
 
-// The automaton of an operation on two well-formed records over the same letters, its rows in s. The table u is for work.
-fn join_records<O: Binary>(first: &[u8], second: &[u8], s: &mut Table, u: &mut Table) -> Machine
-    requires { Operands first.now second.now × (length s.old ≡ size) × (length u.old ≡ size) }
-    ensures { Built (letters_of first.now) (O.words (language_of first.now) (language_of second.now)) s.new result × (length u.new ≡ size) }
+// The automaton of an operation on two records over the same letters, its rows in s. The table u is for work.
+fn join_records<O: Binary>(pair: Pair, s: &mut Table, u: &mut Table) -> Machine
+    requires { (length s.old ≡ size) × (length u.old ≡ size) }
+    ensures { Built (letters_of pair.entry.first.bytes.now) (O.words (language_of pair.entry.first.bytes.now) (language_of pair.entry.second.bytes.now)) s.new result × (length u.new ≡ size) }
 {
-    let g = codec::read(first, s);
-    let h = codec::read(second, u);
+    let g = codec::lent::read(pair.first, s);
+    let h = codec::lent::read(pair.second, u);
     O::join(s, g, u, h)
 }
 
@@ -192,10 +191,10 @@ fn combine<O: Binary>(first: &[u8], second: &[u8], out: &mut [u8]) -> Result<usi
 {
     let mut room = [0; BLANK];
     let right = operands::meant(first, second, &mut room);
-    operands::check_pair(first, right)?;
+    let pair = operands::lent::check_pair(first, right)?;
     let mut s = [0u64; 512];
     let mut u = [0u64; 512];
-    let m = join_records::<O>(first, right, &mut s, &mut u);
+    let m = join_records::<O>(pair, &mut s, &mut u);
     results::finish(&mut s, m, &mut u, out)
 }
 
@@ -229,9 +228,9 @@ fn operate<O: Unary>(bytes: &[u8], out: &mut [u8]) -> Result<usize, Refusal>
     ensures buffer { out.new ≡ buffer_in (unary_outcome O.make bytes.now) out.old }
     ensures claims { Operates O.words bytes.now out.new result }
 {
-    record::check_as(bytes, 1)?;
+    let lent = Record::check_as(bytes, 1)?;
     let mut s = [0u64; 512];
-    let g = codec::read(bytes, &mut s);
+    let g = codec::lent::read(lent, &mut s);
     let m = O::build(&mut s, g);
     let mut u = [0u64; 512];
     results::finish(&mut s, m, &mut u, out)

@@ -11,7 +11,6 @@ ghost use Rattle.record.specs.Record.{states_of, letters_of, row_at, WellFormed}
 ghost use Rattle.products.specs.Lines.{Both, Single};
 
 use kernels::Line;
-use products::Three;
 use rows::Row;
 
 // A row in two halves: its bits on the states of the first record, and on those of the second.
@@ -78,38 +77,6 @@ pub fn times_pair(first: &[u8], second: &[u8], l: usize, x: Row) -> Row
 {
     let [y]: [Row; 1] = times_each_both(first, second, l, x);
     y
-}
-
-// Two rows.
-#[derive(Clone, Copy)]
-pub struct Two {
-    pub first: Row,
-    pub second: Row,
-}
-
-// The row x times the matrices of both letters of two records side by side.
-pub fn times_two_both(first: &[u8], second: &[u8], x: Row) -> Two
-    requires { WellFormed first.now × WellFormed second.now × (letters_of second.now ≡ letters_of first.now) × (letters_of first.now ≡ 2) × (mask x < 2 ^ (states_of first.now + states_of second.now)) }
-    ensures { (mask result.first ≡ product (states_of first.now + states_of second.now) (mask x) (beside (row_at first.now) (row_at second.now) (states_of first.now) 0)) × (mask result.second ≡ product (states_of first.now + states_of second.now) (mask x) (beside (row_at first.now) (row_at second.now) (states_of first.now) 1)) }
-{
-    let [y, z]: [Row; 2] = times_each_both(first, second, 0, x);
-    Two {
-        first: y,
-        second: z,
-    }
-}
-
-// The row x times the matrices of the three letters of two records side by side.
-pub fn times_three_both(first: &[u8], second: &[u8], x: Row) -> Three
-    requires { WellFormed first.now × WellFormed second.now × (letters_of second.now ≡ letters_of first.now) × (letters_of first.now ≡ 3) × (mask x < 2 ^ (states_of first.now + states_of second.now)) }
-    ensures { (mask result.first ≡ product (states_of first.now + states_of second.now) (mask x) (beside (row_at first.now) (row_at second.now) (states_of first.now) 0)) × (mask result.second ≡ product (states_of first.now + states_of second.now) (mask x) (beside (row_at first.now) (row_at second.now) (states_of first.now) 1)) × (mask result.third ≡ product (states_of first.now + states_of second.now) (mask x) (beside (row_at first.now) (row_at second.now) (states_of first.now) 2)) }
-{
-    let [y, z, w]: [Row; 3] = times_each_both(first, second, 0, x);
-    Three {
-        first: y,
-        second: z,
-        third: w,
-    }
 }
 
 // The row x times the matrix of every letter of two records side by side, into a line: a line for each, then both merged.

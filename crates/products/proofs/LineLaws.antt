@@ -1,8 +1,7 @@
 -- Lines of products: one more letter; and the products of two records side by side, from those of each.
-use mathlib.Core.Path.{◌≡◌, refl, sym, ap₂, subst, ◌∙◌}
+use mathlib.Core.Path.{◌≡◌, sym, ap₂, subst, ◌∙◌}
 use mathlib.Core.List.{List}
 use Prim.Native.Nat.{ℕ, ◌+◌, ◌-◌, ◌*◌, ◌/◌, ◌^◌, ◌≤◌, ◌<◌}
-use native.Mathlib.Nat.{not-suc-le-zero}
 use native.Mathlib.Numerals.{add-one}
 use native.Mathlib.Decide.{dec_lt}
 use native.Mathlib.Omega.{arith}
@@ -24,10 +23,6 @@ use Rattle.products.proofs.PairLaws.{product_below}
 
 -- ---- letter by letter
 
--- No letter yet.
-pub upto_none : (M : ℕ → ℕ → ℕ) (n x : ℕ) (s : List ℕ) → length s ≡ blocks → Upto 0 M n x s
-upto_none M n x s h = (h, λ l z. absurd (not-suc-le-zero z))
-
 -- The products of n letters from l on, put at their places.
 pub upto_put : {l n : ℕ} {x : List Row} {s s' : List ℕ} (M : ℕ → ℕ → ℕ) (m z : ℕ) → ((k : ℕ) → k < n → mask_at x k ≡ product m z (M (l + k))) → Put l n x s s' → Upto l M m z s → Upto (l + n) M m z s'
 upto_put {l} {n} {s' = s'} M m z made p u = (p.size ∙ u.0, λ i h. go i h (dec_lt i l))
@@ -44,9 +39,6 @@ pub record Merged (l n : ℕ) (s₀ t s : List ℕ) : Type 0 where
   pub done : (k : ℕ) → k < l → get_or s k 0 ≡ bit_xor (get_or s₀ k 0) (get_or t k 0 * 2 ^ n)
   pub rest : (k : ℕ) → l ≤ k → get_or s k 0 ≡ get_or s₀ k 0
 
-pub merged_start : (n : ℕ) (s₀ t : List ℕ) → length s₀ ≡ blocks → Merged 0 n s₀ t s₀
-merged_start n s₀ t h = record { size = h; done = λ k z. absurd (not-suc-le-zero z); rest = λ k z. refl }
-
 pub merged_step : (l n : ℕ) (s₀ t s : List ℕ) {s' : List ℕ} {v a b c : ℕ} → l < blocks → a ≡ get_or s l 0 → b ≡ get_or t l 0 → c ≡ b * 2 ^ n → v ≡ bit_xor a c → s' ≡ set s l v → Merged l n s₀ t s → Merged (l + 1) n s₀ t s'
 merged_step l n s₀ t s {v = v} h ea eb ec ev e m = rw (e, add-one) (record {
   size = length-set s l v ∙ m.size;
@@ -61,9 +53,6 @@ pub record Joined (k n : ℕ) (y₀ z y : List Row) : Type 0 where
   pub size : length y ≡ length y₀
   pub done : (j : ℕ) → j < k → mask_at y j ≡ bit_xor (mask_at y₀ j) (mask_at z j * 2 ^ n)
   pub rest : (j : ℕ) → k ≤ j → mask_at y j ≡ mask_at y₀ j
-
-pub joined_start : (n : ℕ) (y₀ z : List Row) → Joined 0 n y₀ z y₀
-joined_start n y₀ z = record { size = refl; done = λ j h. absurd (not-suc-le-zero h); rest = λ j h. refl }
 
 pub joined_step : (k n : ℕ) (y₀ z y : List Row) {c : ℕ} (v : Row) → k < length y₀ → c ≡ mask_at z k * 2 ^ n → mask v ≡ bit_xor (mask_at y k) c → Joined k n y₀ z y → Joined (k + 1) n y₀ z (set y k v)
 joined_step k n y₀ z y v h ec ev m = rw add-one (record {

@@ -65,27 +65,6 @@ pub fn times_single(bytes: &[u8], n: usize, l: usize, x: Row) -> Row
     row_at(bytes, n, l, rows::lowest(x))
 }
 
-// Three rows.
-#[derive(Clone, Copy)]
-pub struct Three {
-    pub first: Row,
-    pub second: Row,
-    pub third: Row,
-}
-
-// The row x times the matrices of the first three letters, in one pass over the bits of x.
-pub fn times_three(bytes: &[u8], x: Row) -> Three
-    requires { WellFormed bytes.now × (3 ≤ letters_of bytes.now) × (mask x < 2 ^ states_of bytes.now) }
-    ensures { (mask result.first ≡ product (states_of bytes.now) (mask x) (row_at bytes.now 0)) × (mask result.second ≡ product (states_of bytes.now) (mask x) (row_at bytes.now 1)) × (mask result.third ≡ product (states_of bytes.now) (mask x) (row_at bytes.now 2)) }
-{
-    let [first, second, third]: [Row; 3] = times_each(bytes, 0, x);
-    Three {
-        first,
-        second,
-        third,
-    }
-}
-
 // Writes the products of N letters from l on.
 fn put_letters<const N: usize>(bytes: &[u8], l: usize, x: Row, s: &mut Line)
     requires { WellFormed bytes.now × (l + N ≤ letters_of bytes.now) × (mask x < 2 ^ states_of bytes.now) × Upto l (row_at bytes.now) (states_of bytes.now) (mask x) s.old }

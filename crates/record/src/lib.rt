@@ -7,6 +7,9 @@ ghost use Rattle.record.specs.Bytes.{number};
 ghost use Rattle.record.specs.Record.{max_states, max_letters, row_bytes, header, initial_at, rows_at, states_of, letters_of, length_of, front_of, need_of, stray_from, check_of, WellFormed, head_of, encode};
 ghost use Rattle.record.specs.Rules.{number_of, fault, refusal, refusal_of};
 
+mod lent;
+
+pub use lent::{Pair, Record};
 use rows::Row;
 
 pub const VERSION: usize = 1;
@@ -85,13 +88,6 @@ impl Rule {
     }
 }
 
-// A byte as part of a row's number.
-fn wide(x: u8) -> u64
-    ensures { (result ≡ x) × (result < 256) }
-{
-    x as u64
-}
-
 // A byte as a size, an index or a letter.
 pub fn size(x: u8) -> usize
     ensures { (result ≡ x) × (result < 256) }
@@ -104,11 +100,8 @@ pub fn field_at(bytes: &[u8], p: usize) -> Row
     requires { p + row_bytes ≤ length bytes.now }
     ensures { mask result ≡ number row_bytes bytes.now p }
 {
-    let b0 = wide(bytes[p]);
-    let b1 = wide(bytes[p + 1]);
-    let b2 = wide(bytes[p + 2]);
-    let b3 = wide(bytes[p + 3]);
-    rows::from_u64(b0 + 256 * b1 + 65536 * b2 + 16777216 * b3)
+    let x = u32::from_le_bytes([bytes[p], bytes[p + 1], bytes[p + 2], bytes[p + 3]]);
+    Row::from(u64::from(x))
 }
 
 // Rows 1 to 5 of the refusal table, for a record that may have bytes after it.
@@ -128,13 +121,13 @@ pub fn check_front(bytes: &[u8]) -> Result<(), Fault>
     if bytes[2] != 0x41 {
         return Err(Rule::WrongMark.at(2));
     }
-    if size(bytes[3]) + 256 * size(bytes[4]) != VERSION {
+    if usize::from(bytes[3]) + 256 * usize::from(bytes[4]) != VERSION {
         return Err(Rule::WrongVersion.at(3));
     }
-    if MAX_STATES < size(bytes[5]) {
+    if MAX_STATES < usize::from(bytes[5]) {
         return Err(Rule::States.at(5));
     }
-    let a = size(bytes[6]);
+    let a = usize::from(bytes[6]);
     if a == 0 {
         return Err(Rule::Letters.at(6));
     }
@@ -157,7 +150,7 @@ pub fn need(bytes: &[u8]) -> usize
     requires { front_of bytes.now ≡ Ok tt }
     ensures { result ≡ need_of bytes.now }
 {
-    length_of(size(bytes[5]), size(bytes[6]))
+    length_of(usize::from(bytes[5]), usize::from(bytes[6]))
 }
 
 // The bits of k fields together: I, F and the rows.
@@ -167,10 +160,8 @@ fn all_fields(bytes: &[u8], k: usize) -> Row
 {
     let end = INITIAL_AT + ROW_BYTES * k;
     let mut y = rows::none();
-    let mut p = INITIAL_AT;
-    while p < end {
+    for p in (INITIAL_AT..end).step_by(ROW_BYTES) {
         y = rows::or(y, field_at(bytes, p));
-        p += ROW_BYTES;
     }
     y
 }
@@ -181,12 +172,10 @@ fn find_stray(bytes: &[u8], n: usize, k: usize) -> Result<(), Fault>
     ensures { result ≡ stray_from row_bytes n bytes.now k initial_at }
 {
     let end = INITIAL_AT + ROW_BYTES * k;
-    let mut place = INITIAL_AT;
-    while place < end {
+    for place in (INITIAL_AT..end).step_by(ROW_BYTES) {
         if !rows::within(field_at(bytes, place), n) {
             return Err(Rule::StrayBit.at(place));
         }
-        place += ROW_BYTES;
     }
     Ok(())
 }
@@ -211,8 +200,8 @@ pub fn check(bytes: &[u8]) -> Result<(), Fault>
     if bytes.len() != whole {
         return Err(Rule::WrongLength.at(whole));
     }
-    let n = size(bytes[5]);
-    let a = size(bytes[6]);
+    let n = usize::from(bytes[5]);
+    let a = usize::from(bytes[6]);
     check_fields(bytes, n, 2 + a * n)
 }
 

@@ -1,3 +1,4 @@
 -- The definitions that the contracts of the reduction cite.
 pub mod Search
 pub mod Tables
+pub mod Before

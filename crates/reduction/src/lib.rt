@@ -1,159 +1,127 @@
 // The reduction of a xor automaton: its rows in the order of their words, and the automaton in those coordinates.
 #![tactic(auto)]
 
-ghost use Rattle.std.specs.Prelude.{◌≡◌, ℕ, ◌+◌, ◌^◌, ◌≤◌, ◌<◌, length};
+ghost use Rattle.std.specs.Prelude.{◌≡◌, ℕ, ◌+◌, ◌^◌, ◌≤◌, ◌<◌};
 ghost use Rattle.rows.specs.Row.{width, mask};
-ghost use Rattle.rows.specs.Table.{blocks, size, at};
-ghost use Rattle.rows.specs.Machine.{Valid};
-ghost use Rattle.rows.specs.Product.{product};
-ghost use Rattle.basis.specs.Basis.{basis_size, cell};
+ghost use Rattle.rows.specs.Table.{at};
+ghost use Rattle.basis.specs.Basis.{cell};
 ghost use Rattle.kernels.specs.Products.{Products};
-ghost use Rattle.reduction.specs.Tables.{Searching, Searched, Coefficients, Column, ReducesUpTo};
+ghost use Rattle.reduction.specs.Tables.{Coefficients, Column, ReducesUpTo};
 
 use basis::{Basis, WIDEST};
 use elimination::Size;
 use kernels::Line;
 use lookup::Lookup;
-use rows::{Machine, Row, Table};
+use rows::{Machine, Row, Source, Table};
 
-// Row k of the basis b times letter l, which is y, placed in b; the rows that make it are kept in out.
-pub fn step(
-    t: &Table,
-    m: Machine,
-    b: &mut Basis,
-    out: &mut Table,
-    y: Row,
-    s: Size,
-    k: usize,
-    l: usize,
-) -> Size
-    requires { Valid t.now m × Searching m.letters t.now m.states (mask m.initial) (mask m.finals) b.old out.old s.count k l (mask s.pivots) (mask s.used) × (k < s.count) × (l < m.letters) × (mask y ≡ product m.states (cell width b.old 1 k) (at t.now l)) }
-    ensures { Searching m.letters t.now m.states (mask m.initial) (mask m.finals) b.new out.new result.count k (l + 1) (mask result.pivots) (mask result.used) × (s.count ≤ result.count) × (cell width b.new 1 k ≡ cell width b.old 1 k) }
+// The products of row k of the basis with every letter, in a line. Over one letter there is no matrix beside the first.
+pub fn multiply(x: Source, b: &Basis, k: usize) -> Line
+    requires { k < width }
+    ensures { (n : ℕ) → cell width b.now 1 k < 2 ^ n → Products x.entry.machine.letters n (cell width b.now 1 k) (at x.entry.table.now) result }
 {
-    let q = elimination::place(b, WIDEST, m.states, s, y);
-    let row = q.row;
-    rows::store(out, l, k, row);
-    q.size
-}
-
-// The products of row k of the basis with the first a letters, in a line. Over one letter there is no matrix beside the first.
-pub fn multiply(t: &Table, a: usize, b: &Basis, k: usize, y: &mut Line)
-    requires { (a ≤ blocks) × (length b.now ≡ basis_size) × (k < width) × (length y.old ≡ blocks) }
-    ensures { (n : ℕ) → cell width b.now 1 k < 2 ^ n → Products a n (cell width b.now 1 k) (at t.now) y.new }
-{
-    let x = basis::get(b, WIDEST, 1, k);
-    if a == 1 {
-        kernels::put(y, 0, rows::times(t, 0, x));
-        return;
-    }
-    kernels::times_all(t, a, x, y);
-}
-
-// Row k by every letter.
-pub fn expand(t: &Table, m: Machine, b: &mut Basis, out: &mut Table, s: Size, k: usize) -> Size
-    requires { Valid t.now m × Searching m.letters t.now m.states (mask m.initial) (mask m.finals) b.old out.old s.count k 0 (mask s.pivots) (mask s.used) × (k < s.count) }
-    ensures { Searching m.letters t.now m.states (mask m.initial) (mask m.finals) b.new out.new result.count (k + 1) 0 (mask result.pivots) (mask result.used) × (s.count ≤ result.count) }
-{
-    let a = m.letters;
+    let row = basis::get(b, WIDEST, 1, k);
     let mut y = [0u64; 8];
-    multiply(t, a, b, k, &mut y);
-    let mut r = s;
-    for l in 0..a {
-        let z = kernels::pick(&y, l);
-        r = step(t, m, b, out, z, r, k, l);
+    if x.machine.letters == 1 {
+        kernels::put(&mut y, 0, rows::times(x.table, 0, row));
+        return y;
     }
-    r
-}
-
-// Row k of the basis times letter l, which is y, where as many rows are found as there are states: it is an xor of them, and the first g
-// groups of tab tell of which.
-fn look_up(
-    t: &Table,
-    m: Machine,
-    b: &Basis,
-    tab: &Lookup,
-    g: usize,
-    out: &mut Table,
-    y: Row,
-    s: Size,
-    k: usize,
-    l: usize,
-)
-    requires { Valid t.now m × Searching m.letters t.now m.states (mask m.initial) (mask m.finals) b.now out.old s.count k l (mask s.pivots) (mask s.used) × (k < s.count) × (l < m.letters) × (s.count ≡ m.states) × Coefficients g (mask s.pivots) b.now tab.now × (mask y ≡ product m.states (cell width b.now 1 k) (at t.now l)) }
-    ensures { Searching m.letters t.now m.states (mask m.initial) (mask m.finals) b.now out.new s.count k (l + 1) (mask s.pivots) (mask s.used) }
-{
-    let c = lookup::times(tab, g, y);
-    rows::store(out, l, k, c);
-}
-
-// Row k by every letter, so looked up.
-fn look_up_row(
-    t: &Table,
-    m: Machine,
-    b: &Basis,
-    tab: &Lookup,
-    g: usize,
-    out: &mut Table,
-    s: Size,
-    k: usize,
-)
-    requires { Valid t.now m × Searching m.letters t.now m.states (mask m.initial) (mask m.finals) b.now out.old s.count k 0 (mask s.pivots) (mask s.used) × (k < s.count) × (s.count ≡ m.states) × Coefficients g (mask s.pivots) b.now tab.now }
-    ensures { Searching m.letters t.now m.states (mask m.initial) (mask m.finals) b.now out.new s.count (k + 1) 0 (mask s.pivots) (mask s.used) }
-{
-    let a = m.letters;
-    let mut y = [0u64; 8];
-    multiply(t, a, b, k, &mut y);
-    for l in 0..a {
-        let z = kernels::pick(&y, l);
-        look_up(t, m, b, tab, g, out, z, s, k, l);
-    }
-}
-
-// The rows from `first` on by every letter, by a table of the coefficients.
-fn look_up_rows(t: &Table, m: Machine, b: &Basis, out: &mut Table, s: Size, first: usize)
-    requires { Valid t.now m × Searching m.letters t.now m.states (mask m.initial) (mask m.finals) b.now out.old s.count first 0 (mask s.pivots) (mask s.used) × (first ≤ s.count) × (s.count ≡ m.states) }
-    ensures { Searching m.letters t.now m.states (mask m.initial) (mask m.finals) b.now out.new s.count s.count 0 (mask s.pivots) (mask s.used) }
-{
-    let d = s.count;
-    let p = s.pivots;
-    let mut tab = [0u64; 256];
-    let g = lookup::fill(b, WIDEST, 2, p, &mut tab);
-    for k in first..d {
-        look_up_row(t, m, b, &tab, g, out, s, k);
-    }
+    kernels::times_all(x.table, x.machine.letters, row, &mut y);
+    y
 }
 
 // How many products are worth a table.
 const MANY: usize = 32;
 
-// Every row by every letter, first in, first out. As many rows as there are states are all that there are: if that is more than `most`,
-// the products to come are left.
-pub fn search(t: &Table, m: Machine, b: &mut Basis, out: &mut Table, s: Size, most: usize) -> Size
-    requires { Valid t.now m × Searching m.letters t.now m.states (mask m.initial) (mask m.finals) b.old out.old s.count 0 0 (mask s.pivots) (mask s.used) }
-    ensures { Searched m.letters t.now m.states (mask m.initial) (mask m.finals) b.new out.new most result.count (mask result.pivots) (mask result.used) × (s.count ≤ result.count) × (s.count ≡ 0 → result.count ≡ 0) }
-{
-    let n = m.states;
-    let a = m.letters;
-    let mut r = s;
-    let mut k: usize = 0;
-    while k < r.count {
-        if r.count == n {
-            if most < n {
-                return r;
-            }
-            if MANY <= (n - k) * a {
-                look_up_rows(t, m, b, out, r, k);
-                return r;
-            }
-        }
-        r = expand(t, m, b, out, r, k);
-        k += 1;
+// A reduction under way: the automaton, and the lent tables of the search for its rows. The basis has the rows found so far, and `out` has of
+// each product done the rows found that make it.
+#[derive(Drop)]
+pub struct Reduction<'a> {
+    pub source: Source<'a>,
+    pub basis: &'a mut Basis,
+    pub out: &'a mut Table,
+    pub size: Size,
+}
+
+impl<'a> Reduction<'a> {
+    ghost use Rattle.reduction.specs.Before.{Before, After, Product, Follows, Filled};
+
+    // Row k times letter l, which is y, is placed in the basis; the rows that make it are kept.
+    fn step(&mut self, y: Row, k: usize, l: usize)
+        requires { Before self.old k l × (k < self.old.size.count) × (l < self.old.source.machine.letters) × Product self.old k l (mask y) }
+        ensures { Before self.new k (l + 1) × Follows self.old self.new × (cell width self.new.basis.now 1 k ≡ cell width self.old.basis.now 1 k) }
+    {
+        let n = self.source.machine.states;
+        let s = self.size;
+        let q = elimination::place(self.basis, WIDEST, n, s, y);
+        rows::store(self.out, l, k, q.row);
+        self.size = q.size;
     }
-    r
+
+    // Row k by every letter.
+    fn expand(&mut self, k: usize)
+        requires { Before self.old k 0 × (k < self.old.size.count) }
+        ensures { Before self.new (k + 1) 0 × Follows self.old self.new }
+    {
+        let y = multiply(self.source, self.basis, k);
+        for l in 0..self.source.machine.letters {
+            let z = kernels::pick(&y, l);
+            self.step(z, k, l);
+        }
+    }
+
+    // Row k by every letter, where as many rows are found as there are states: each product is an xor of them, and tab tells of which.
+    fn look_up_row(&mut self, tab: &Lookup, k: usize)
+        requires { Before self.old k 0 × (k < self.old.size.count) × (self.old.size.count ≡ self.old.source.machine.states) × Coefficients tab.now.groups (mask self.old.size.pivots) self.old.basis.now tab.now.entries }
+        ensures { Before self.new (k + 1) 0 × Filled self.old self.new }
+    {
+        let y = multiply(self.source, self.basis, k);
+        for l in 0..self.source.machine.letters {
+            let z = kernels::pick(&y, l);
+            let c = tab.times(z);
+            rows::store(self.out, l, k, c);
+        }
+    }
+
+    // The rows from `first` on by every letter, by a table of the coefficients.
+    fn look_up_rows(&mut self, first: usize)
+        requires { Before self.old first 0 × (first ≤ self.old.size.count) × (self.old.size.count ≡ self.old.source.machine.states) }
+        ensures { Before self.new self.new.size.count 0 × Filled self.old self.new }
+    {
+        let mut tab = Lookup::empty();
+        tab.fill(self.basis, WIDEST, 2, self.size.pivots);
+        for k in first..self.size.count {
+            self.look_up_row(&tab, k);
+        }
+    }
+
+    // Every row by every letter, first in, first out. As many rows as there are states are all that there are: if that is more than `most`,
+    // the products to come are left.
+    fn search(&mut self, most: usize)
+        requires { Before self.old 0 0 }
+        ensures { After self.new most × Follows self.old self.new × (self.old.size.count ≡ 0 → self.new.size.count ≡ 0) }
+    {
+        let n = self.source.machine.states;
+        let a = self.source.machine.letters;
+        let mut k: usize = 0;
+        // Rows are found on the way, so that the end moves: a `for` would keep the first one.
+        while k < self.size.count {
+            if self.size.count == n {
+                if most < n {
+                    return;
+                }
+                if MANY <= (n - k) * a {
+                    self.look_up_rows(k);
+                    return;
+                }
+            }
+            self.expand(k);
+            k += 1;
+        }
+    }
 }
 
 // Which of the first d rows of the basis b share an odd number of bits with f.
-pub fn column(b: &Basis, n: usize, d: usize, f: Row) -> Row
+fn column(b: &Basis, n: usize, d: usize, f: Row) -> Row
     requires { (d ≤ width) × ((k : ℕ) → k < d → cell width b.now 1 k < 2 ^ n) }
     ensures { Column n b.now d (mask f) (mask result) × (mask result < 2 ^ d) }
 {
@@ -168,24 +136,26 @@ pub fn column(b: &Basis, n: usize, d: usize, f: Row) -> Row
     y
 }
 
-// The automaton of t and m on a basis of the rows that words lead to, in shortlex order. The basis is left in b, the rows in out. `most`
-// states are of use: of more than that only their number is told.
-pub fn reduce(t: &Table, m: Machine, b: &mut Basis, out: &mut Table, most: usize) -> Machine
-    requires { Valid t.now m × (length b.old ≡ basis_size) × (length out.old ≡ size) }
-    ensures { (result.letters ≡ m.letters) × ReducesUpTo m.letters t.now m.states (mask m.initial) (mask m.finals) b.new out.new most result.states (mask result.initial) (mask result.finals) }
+// The automaton of x on a basis of the rows that words lead to, in shortlex order. The basis is left in b, the rows in out. `most` states are
+// of use: of more than that only their number is told.
+pub fn reduce(x: Source, b: &mut Basis, out: &mut Table, most: usize) -> Machine
+    ensures { (result.letters ≡ x.entry.machine.letters) × ReducesUpTo x.entry.machine.letters x.entry.table.now x.entry.machine.states (mask x.entry.machine.initial) (mask x.entry.machine.finals) b.new out.new most result.states (mask result.initial) (mask result.finals) }
 {
-    let n = m.states;
-    let i = m.initial;
-    let f = m.finals;
-    let q = elimination::place(b, WIDEST, n, Size::empty(), i);
-    let s = search(t, m, b, out, q.size, most);
-    let d = s.count;
-    let c = column(b, n, d, f);
-    let row = q.row;
+    let m = x.machine;
+    let q = elimination::place(b, WIDEST, m.states, Size::empty(), m.initial);
+    let mut r = Reduction {
+        source: x,
+        basis: b,
+        out: out,
+        size: q.size,
+    };
+    r.search(most);
+    let d = r.size.count;
+    let c = column(r.basis, m.states, d, m.finals);
     Machine {
         states: d,
         letters: m.letters,
-        initial: row,
+        initial: q.row,
         finals: c,
     }
 }

@@ -24,10 +24,6 @@ no_bit {b = false} z e t = absurd (true≢false (sym t))
 pub cleared_less : (z : ℕ) {z' : ℕ} → 0 < z → z' ≡ bit_and z (z - 1) → z' < z
 cleared_less z p e = omega (arith, and_le_r z (z - 1))
 
--- A bit of z is the place of a state.
-pub bit_state : (n x z q : ℕ) → x < 2 ^ n → z ≤ x → bit_of z q ≡ true → q < n
-bit_state n x z q h le b = bit_below n (lt_of_le_of_lt le h) q b
-
 -- The bits left are bits of z.
 pub cleared_bit : (z i : ℕ) {z' : ℕ} → z' ≡ bit_and z (z - 1) → bit_of z' i ≡ true → bit_of z i ≡ true
 cleared_bit z i e b = first_so (bit_of z i) (bit_of (z - 1) i) (sym (bit_and_lem i z (z - 1)) ∙ ap (λ y. bit_of y i) (sym e) ∙ b)

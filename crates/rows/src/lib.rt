@@ -11,6 +11,10 @@ ghost use Rattle.rows.specs.Table.{blocks, at, stored};
 ghost use Rattle.rows.specs.Product.{product};
 ghost use Rattle.rows.specs.Each.{Reads};
 
+mod source;
+
+pub use source::Source;
+
 // A row of `width` bits.
 #[derive(Clone, Copy, PartialEq, Eq)]
 pub struct Row {

@@ -2,4 +2,4 @@
 pub mod EndToEnd
 pub mod Parts
 pub mod Reading
-pub mod Whole
+pub mod WholeLaws

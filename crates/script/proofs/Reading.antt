@@ -2,12 +2,11 @@
 use mathlib.Core.Path.{◌≡◌, refl, sym, ap, ◌∙◌}
 use mathlib.Core.Bool.{true, false}
 use mathlib.Core.List.{List}
-use Prim.Native.Nat.{ℕ, zero, suc, ◌+◌, ◌≤◌}
+use Prim.Native.Nat.{ℕ, zero, suc, ◌+◌, ◌-◌, ◌≤◌}
 use native.Mathlib.Omega.{arith}
 use borrow.Author.Tests.{eqb-true}
-use Rattle.script.specs.Script.{part_at, after_part, read_to, part_of_index, is_last}
-use Rattle.script.specs.declared.Part.{Part}
-use Rattle.script.specs.declared.Part.TheVariants.{Whole, Refused, End}
+use Rattle.script.specs.Script.{Part, part_at, after_part, read_to, part_of_index, is_last}
+use Rattle.std.specs.Prelude.{Ok, Err, Some, None}
 
 module _ (s : List ℕ) where
   pub read_first : read_to s 0 ≡ 0
@@ -34,15 +33,21 @@ module _ (s : List ℕ) where
       stood still = ap (part_at s) (sym (stays k left still))
 
       go : (p : Part) → part_of_index s k ≡ p → is_last p left ≡ true → part_of_index s k ≡ part_of_index s (left + k)
-      go (Whole start next) e none =
+      go (Some (Ok w)) e none =
           let z : left ≡ 0 = eqb-true left 0 none in
           let same : k ≡ left + k = omega arith in
           ap (part_of_index s) same
-      go (Refused number place) e none = stood (read_on k ∙ ap (λ p. after_part p (read_to s k)) e)
-      go End e none = stood (read_on k ∙ ap (λ p. after_part p (read_to s k)) e)
+      go (Some (Err f)) e none = stood (read_on k ∙ ap (λ p. after_part p (read_to s k)) e)
+      go None e none = stood (read_on k ∙ ap (λ p. after_part p (read_to s k)) e)
+
+  -- What is given out early is what every later call gives out too.
+  pub given_early : (k index : ℕ) {p q : Part} → k ≤ index → p ≡ part_of_index s k → p ≡ q → is_last q (index - k) ≡ true → p ≡ part_of_index s index
+  given_early k index h e is none =
+      let i : index - k + k ≡ index = omega arith in
+      e ∙ last_wanted k (index - k) (ap (λ p. is_last p (index - k)) (sym e ∙ is) ∙ none) ∙ ap (part_of_index s) i
 
 pub more_wanted : (p : Part) (left : ℕ) → is_last p left ≡ false → 1 ≤ left
-more_wanted (Whole start next) zero more = absurd (cc)
-more_wanted (Whole start next) (suc left) more = omega arith
-more_wanted (Refused number place) left more = absurd (cc)
-more_wanted End left more = absurd (cc)
+more_wanted (Some (Ok w)) zero more = absurd (cc)
+more_wanted (Some (Ok w)) (suc left) more = omega arith
+more_wanted (Some (Err f)) left more = absurd (cc)
+more_wanted None left more = absurd (cc)

@@ -1,69 +1,53 @@
 // The reader of a script: records end to end in a lent slice, given out one after another.
 #![tactic(auto)]
 
-ghost use Rattle.std.specs.Prelude.{◌≡◌};
-ghost use Rattle.script.specs.Script.{passed, part_at, after_part, Advances, is_last, part_of_index};
+ghost use Rattle.std.specs.Prelude.{◌≡◌, ◌≤◌, length, drop, Some};
+ghost use Rattle.script.specs.Script.{part_of, part_at, Advances, part_of_index, WhereWhole, Within};
 
-use record::Checked;
+use record::{Fault, Rule};
 
-// What stands at a position of a script: a whole record and where the next one starts, a refusal 1 to 6, or the end.
-#[derive(Clone, Copy)]
-pub enum Part {
-    Whole { start: usize, next: usize },
-    Refused { number: usize, place: usize },
-    End,
+// A whole record of a script: where it starts, and where the next one does.
+#[derive(Clone, Copy, PartialEq, Eq)]
+pub struct Whole {
+    pub start: usize,
+    pub next: usize,
 }
 
-// A refusal of rows 1 to 5, as what stands there.
-fn refuse(c: Checked) -> Part
-    ensures { result ≡ passed c Part.End }
+// What stands at a position of a script: a whole record or a refusal 1 to 6; nothing where the script ends.
+pub type Part = Option<Result<Whole, Fault>>;
+
+// What stands at a position short of the script's end.
+#[tactic(auto, unfolding(crate::specs::Script::part_of))]
+fn whole_at(script: &[u8], at: usize) -> Result<Whole, Fault>
+    requires { at ≤ length script.now }
+    ensures value { result ≡ part_of (drop at script.now) at }
+    ensures within { WhereWhole (Some result) (Within script.now) }
 {
-    match c {
-        Checked::Good => Part::End,
-        Checked::Refused { number, place } => Part::Refused { number, place },
+    let left = &script[at..];
+    record::check_front(left)?;
+    let need = record::need(left);
+    if left.len() < need {
+        return Err(Rule::WrongLength.at(need));
     }
+    Ok(Whole {
+        start: at,
+        next: at + need,
+    })
 }
 
 // The cursor: what stands at a position of a script.
+#[tactic(auto, unfolding(crate::specs::Script::part_at))]
 pub fn part_at(script: &[u8], at: usize) -> Part
-    ensures { result ≡ part_at script.now at }
+    ensures value { result ≡ part_at script.now at }
+    ensures within { WhereWhole result (Within script.now) }
 {
     if script.len() <= at {
-        return Part::End;
+        return None;
     }
-    let left = &script[at..];
-    let front = record::check_front(left);
-    let Checked::Good = front else {
-        return refuse(front);
-    };
-    let whole = record::need(left);
-    if left.len() < whole {
-        return Part::Refused {
-            number: 6,
-            place: whole,
-        };
-    }
-    Part::Whole {
-        start: at,
-        next: at + whole,
-    }
+    Some(whole_at(script, at))
 }
 
-// Where a reader stands after a part: past a record, else where it was.
-fn after(part: Part, at: usize) -> usize
-    ensures { result ≡ after_part part at }
-{
-    match part {
-        Part::Whole { start: _, next } => next,
-        Part::Refused {
-            number: _,
-            place: _,
-        } => at,
-        Part::End => at,
-    }
-}
-
-// The reader: a lent script and how far it has been read. Every function over it takes it apart and leaves the work to `part_at`.
+// The reader: a lent script and how far it has been read.
 #[derive(Drop)]
 pub struct Script<'a> {
     pub bytes: &'a [u8],
@@ -78,41 +62,32 @@ impl<'a> Script<'a> {
         Script { bytes, at }
     }
 
-    // Gives out what stands where the reader is, and moves the reader past it.
+    // Gives out what stands where the reader is, and moves the reader past it: past a record, else it stays.
     pub fn next(&mut self) -> Part
         ensures { Advances self.old result self.new }
     {
-        let p = part_at(self.bytes, self.at);
-        self.at = after(p, self.at);
-        p
+        let part = part_at(self.bytes, self.at);
+        if let Some(Ok(whole)) = part {
+            self.at = whole.next;
+        }
+        part
     }
 }
 
-// Whether a part is the last that a reader is asked for: none is left to ask for, or it is no whole record, so that the reader stays.
-fn last(part: Part, left: usize) -> bool
-    ensures { result ≡ is_last part left }
-{
-    match part {
-        Part::Whole { start: _, next: _ } => left == 0,
-        Part::Refused {
-            number: _,
-            place: _,
-        } => true,
-        Part::End => true,
-    }
-}
-
-// What the reader of a script gives out at its call of an index. One reader is asked again and again: whoever calls this needs no struct.
+// What the reader of a script gives out at its call of an index. A reader that has given out no whole record stays, so it is not asked
+// again.
+#[tactic(auto, unfolding(crate::specs::Script::read_to))]
 pub fn part_of_index(script: &[u8], index: usize) -> Part
     ensures { result ≡ part_of_index script.now index }
 {
     let mut reader = Script::resume(script, 0);
-    let mut left = index;
-    loop {
+    for _call in 0..index {
         let part = reader.next();
-        if last(part, left) {
-            return part;
+        match part {
+            Some(Ok(_)) => {}
+            Some(Err(_)) => return part,
+            None => return part,
         }
-        left -= 1;
     }
+    reader.next()
 }

@@ -3,10 +3,11 @@
 
 ghost use Rattle.std.specs.Prelude.{◌≡◌, true, false, List, ℕ, ◌+◌, ◌*◌, ◌/◌, ◌^◌, ◌≤◌, ◌<◌, length};
 ghost use Rattle.std.specs.Int.Bits.{bit_xor};
-ghost use Rattle.rows.specs.Row.{width, mask};
+ghost use Rattle.rows.specs.Row.{width, mask, mask_at};
+ghost use Rattle.rows.specs.Table.{blocks};
 ghost use Rattle.rows.specs.Product.{product};
 ghost use Rattle.basis.specs.Basis.{cell, Room};
-ghost use Rattle.lookup.specs.Lookup.{groups, Tabled, Kept};
+ghost use Rattle.lookup.specs.Lookup.{Tabled, Kept};
 ghost use Rattle.trail.specs.declared.Step.{Step};
 ghost use Rattle.trail.specs.Trail.{trail_size};
 ghost use Rattle.record.specs.Record.{states_of};
@@ -67,8 +68,9 @@ fn try_line(
     })
 }
 
-// The same over two letters, the products made in one pass.
-fn try_two(
+// The same over N letters, the products made in one pass.
+#[tactic(auto, unfolding(rows::specs::Row::mask_at))]
+fn try_few<const N: usize>(
     first: &[u8],
     second: &[u8],
     m: Machine,
@@ -79,32 +81,24 @@ fn try_two(
     k: usize,
     x: Row,
 ) -> Hunt
-    requires { Paired first.now second.now m × HuntingIn stride first.now second.now m b.old w.old s k 0 × (k < s.count) × (mask x ≡ cell stride b.old 1 k) × (m.letters ≡ 2) }
+    requires { Paired first.now second.now m × HuntingIn stride first.now second.now m b.old w.old s k 0 × (k < s.count) × (mask x ≡ cell stride b.old 1 k) × (m.letters ≡ N) × (N ≤ blocks) }
     ensures { HuntedIn stride first.now second.now m b.new w.new s.count (k + 1) 0 result }
 {
-    let p = pair_products::times_two_both(first, second, x);
-    let y = [p.first, p.second];
-    try_each(first, second, m, b, stride, w, s, k, |l| y[l])
-}
-
-// The same over three letters, the products made in one pass.
-fn try_three(
-    first: &[u8],
-    second: &[u8],
-    m: Machine,
-    b: &mut [u64],
-    stride: usize,
-    w: &mut Trail,
-    s: Size,
-    k: usize,
-    x: Row,
-) -> Hunt
-    requires { Paired first.now second.now m × HuntingIn stride first.now second.now m b.old w.old s k 0 × (k < s.count) × (mask x ≡ cell stride b.old 1 k) × (m.letters ≡ 3) }
-    ensures { HuntedIn stride first.now second.now m b.new w.new s.count (k + 1) 0 result }
-{
-    let p = pair_products::times_three_both(first, second, x);
-    let y = [p.first, p.second, p.third];
-    try_each(first, second, m, b, stride, w, s, k, |l| y[l])
+    let y: [Row; N] = pair_products::times_each_both(first, second, 0, x);
+    try_each(
+        first,
+        second,
+        m,
+        b,
+        stride,
+        w,
+        s,
+        k,
+        |l| -> Row
+            requires { (l < N) × (N ≤ blocks) × (length y ≡ N) }
+            ensures { mask result ≡ mask_at y l }
+        { y[l] },
+    )
 }
 
 // The same over three letters or more.
@@ -123,7 +117,7 @@ fn try_letters(
     ensures { HuntedIn stride first.now second.now m b.new w.new s.count (k + 1) 0 result }
 {
     if m.letters == 3 {
-        return try_three(first, second, m, b, stride, w, s, k, x);
+        return try_few::<3>(first, second, m, b, stride, w, s, k, x);
     }
     try_line(first, second, m, b, stride, w, s, k, x)
 }
@@ -151,14 +145,14 @@ fn try_single(
 }
 
 // Whether the table keeps the products of the row x by every letter.
-fn are_kept(first: &[u8], second: &[u8], m: Machine, x: Row, tab: &Lookup, g: usize) -> bool
-    requires { Paired first.now second.now m × (mask x < 2 ^ m.states) × (g ≤ groups) }
-    ensures { result ≡ true → (M : ℕ → ℕ) → Tabled g M tab.now → (l : ℕ) → l < m.letters → Kept g M (product m.states (mask x) (beside_of first.now second.now l)) }
+fn are_kept(first: &[u8], second: &[u8], m: Machine, x: Row, tab: &Lookup) -> bool
+    requires { Paired first.now second.now m × (mask x < 2 ^ m.states) }
+    ensures { result ≡ true → (M : ℕ → ℕ) → Tabled tab.now.groups M tab.now.entries → (l : ℕ) → l < m.letters → Kept tab.now.groups M (product m.states (mask x) (beside_of first.now second.now l)) }
 {
     let a = m.letters;
     let mut y = [0u64; 8];
     pair_products::times_both(first, second, x, &mut y);
-    lookup::keeps(tab, g, &y, a)
+    tab.keeps(&y, a)
 }
 
 // From row k on, the first row that has a product which is no xor of rows found; or the end of the rows. The basis is only read, so that
@@ -175,11 +169,11 @@ fn pass_rows(
     requires { Paired first.now second.now m × ((w : List Step) × HuntingIn stride first.now second.now m b.now w s k 0) × (k ≤ s.count) × (width ≤ stride) }
     ensures { ((w : List Step) → HuntingIn stride first.now second.now m b.now w s k 0 → HuntingIn stride first.now second.now m b.now w s result 0) × (k ≤ result) × (result ≤ s.count) }
 {
-    let mut tab = [0u64; 256];
-    let g = lookup::fill(b, stride, 0, s.pivots, &mut tab);
+    let mut tab = Lookup::empty();
+    tab.fill(b, stride, 0, s.pivots);
     for j in k..s.count {
         let x = basis::get(b, stride, 1, j);
-        if !are_kept(first, second, m, x, &tab, g) {
+        if !are_kept(first, second, m, x, &tab) {
             return j;
         }
     }
@@ -237,7 +231,7 @@ fn try_row(
 {
     let x = basis::get(b, stride, 1, k);
     if m.letters == 2 {
-        let r = try_two(first, second, m, b, stride, w, s, k, x)?;
+        let r = try_few::<2>(first, second, m, b, stride, w, s, k, x)?;
         return ControlFlow::Continue(Turn {
             size: r,
             next: k + 1,

@@ -13,7 +13,7 @@ ghost use Rattle.results.specs.Built.{held_words, Built};
 ghost use Rattle.star.specs.Star.{star_outcome, GivesStar};
 ghost use Rattle.star.specs.Renewed.{renewed, star_rows};
 
-use record::{Refusal, Rule};
+use record::{Record, Refusal, Rule};
 use rows::{Machine, Row, Table};
 
 // The rows of letter l: where one of the n states is final, by the column f, its row gains r, which is the row of the new state n.
@@ -70,9 +70,9 @@ pub fn star(bytes: &[u8], out: &mut [u8]) -> Result<usize, Refusal>
     ensures buffer { out.new ≡ buffer_in (star_outcome bytes.now) out.old }
     ensures claims { GivesStar bytes.now out.new result }
 {
-    record::check_as(bytes, 1)?;
+    let lent = Record::check_as(bytes, 1)?;
     let mut s = [0u64; 512];
-    let g = codec::read(bytes, &mut s);
+    let g = codec::lent::read(lent, &mut s);
     if rows::parity(g.initial, g.finals) {
         return Err(Rule::EmptyWord.of(1, 0));
     }

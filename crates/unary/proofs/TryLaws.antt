@@ -1,11 +1,13 @@
 -- The rows over one letter tried in turn, and the basis that they are inserted in.
-use mathlib.Core.Path.{◌≡◌, ap, ◌∙◌}
-use mathlib.Core.Bool.{Bool}
+use mathlib.Core.Path.{◌≡◌, sym, ap, ◌∙◌}
+use mathlib.Core.Bool.{Bool, true}
 use mathlib.Core.List.{List}
 use mathlib.Core.Option.{none}
 use Prim.Native.Nat.{ℕ, suc, ◌+◌, ◌^◌, ◌<◌, ◌≤◌}
 use native.Mathlib.Nat.{lt_of_lt_of_le}
 use native.Mathlib.Numerals.{add-one}
+use borrow.Author.Tests.{eqb-true}
+use lib.Dec.{eqb}
 use lib.ListN.{length}
 use lib.Pow.{pow_mono}
 use Rattle.automata.specs.Mask.{bit_of}
@@ -59,3 +61,8 @@ module _ (bs cs : List ℕ) (m : Machine) (P : Paired bs cs m) where
 -- The trail may change, as long as it is one.
 pub still_undecided : (bs cs : List ℕ) (m : Machine) (g : Row) (w w' : List Step) → Undecided bs cs m g w → length w' ≡ trail_size → Undecided bs cs m g w'
 still_undecided bs cs m g w w' U e = record { paired = U.paired; trail = e; empty = U.empty; column = U.column }
+
+-- Rows that are equal stand for one number.
+pub same_row : (x y : Row) (r : Bool) → r ≡ eqb x.bits y.bits → r ≡ true → mask x ≡ mask y
+unfolding mask
+same_row x y r e t = eqb-true x.bits y.bits (sym e ∙ t)

@@ -9,6 +9,7 @@ ghost use Rattle.record.specs.Record.{WellFormed};
 ghost use Rattle.verdict.specs.Judged.{JudgedOf, Undecided};
 ghost use Rattle.unary.specs.Powers.{Gives, Powers, Trying, TriedIn};
 
+use lookup::Lookup;
 use rows::{Machine, Row};
 use std::ops::ControlFlow;
 use trail::Trail;
@@ -60,7 +61,7 @@ fn try_lengths<F: Fn(Row) -> Row>(
 {
     for k in h..last {
         let p = triangular::insert(e, t.pivots, t.row);
-        if rows::is_none(rows::xor(p, t.pivots)) {
+        if p == t.pivots {
             return ControlFlow::Break(None);
         }
         let y = times(t.row);
@@ -88,10 +89,10 @@ fn try_tabled(
     requires { (m.letters ≡ 1) × (m.states ≤ length e.old) × (h + 1 < m.states) × Undecided first.now second.now m g w.old × Trying first.now second.now w.old h (mask t.row) (mask t.pivots) e.old }
     ensures { TriedIn first.now second.now w.new (m.states - 1) e.new result }
 {
-    let mut tab = [0u64; 256];
-    let c = pair_lookup::fill(first, second, 0, &mut tab);
+    let mut tab = Lookup::empty();
+    pair_lookup::fill(first, second, 0, &mut tab);
     try_lengths(first, second, m, g, e, w, t, h, m.states - 1, |y| {
-        lookup::times(&tab, c, y)
+        tab.times(y)
     })
 }
 
@@ -154,7 +155,7 @@ pub fn first_power(first: &[u8], second: &[u8], m: Machine, g: Row, w: &mut Trai
     if rows::parity(z, m.finals) {
         return Some(verdict::parted(1, g, z));
     }
-    if rows::is_none(rows::xor(z, i)) {
+    if z == i {
         return None;
     }
     if FEW < m.states {

@@ -1,49 +1,27 @@
--- Where marking goes on, case by case; past the script's end no record stands.
+-- What is no whole record ends the marking. Past the script's end no record stands, so marking that has come to the end stays there.
 use mathlib.Core.Path.{◌≡◌, refl, ap, subst, ◌∙◌}
-use mathlib.Core.List.{List, [], ◌∷◌}
-use mathlib.Core.Logic.{⊎_elim}
+use mathlib.Core.List.{List}
 use Prim.Native.Nat.{ℕ, zero, suc, ◌≤◌, ◌<◌}
 use native.Mathlib.Decide.{dec_lt}
 use native.Mathlib.Omega.{arith}
-use borrow.Author.Tests.{eq-eqb, ne_eqb}
-use types.Run.{OneOf}
-use denote.Enum.Declared.{tag_of}
 use lib.ListN.{length}
-use Rattle.record.specs.Record.{check_of}
-use Rattle.record.specs.declared.Checked.TheVariants.{Good, Refused as Bad}
-use Rattle.script.specs.Script.{part_at, bytes_at}
-use Rattle.script.specs.declared.Part.{Part}
-use Rattle.script.specs.declared.Part.TheVariants.{Whole, Refused, End}
-use Rattle.script.specs.contracts.Part as D
+use Rattle.std.specs.Prelude.{None, Some, Ok, Err}
+use Rattle.script.specs.Script.{Part, part_at}
+use Rattle.script.specs.declared.Whole.{Whole}
 use Rattle.script.proofs.Parts.{end_met}
 use Rattle.walk.specs.Walk.{past_part, past_of, place_of}
 
-module _ (s : List ℕ) (index at : ℕ) where
-  -- What is no whole record ends the marking.
-  pub past_stops : (p : Part) → p ≡ part_at s at → ((x y : ℕ) → p ≡ Whole x y → ⊥) → length s ≡ past_of s index at
-  unfolding past_of
-  past_stops p e h = stops p h ∙ ap (past_part s index) e
-    where
-      stops : (p : Part) → ((x y : ℕ) → p ≡ Whole x y → ⊥) → length s ≡ past_part s index p
-      stops (Whole start next) h = absurd (h start next refl)
-      stops (Refused number place) h = refl
-      stops End h = refl
-
-  module _ (start next : ℕ) (e : Whole start next ≡ part_at s at) where
-    pub past_answer : (index ≡ 0 → ⊥) → next ≡ past_of s index at
-    unfolding past_of
-    past_answer h = rw (← e, ne_eqb index 0 h)
-
-    module _ (key : index ≡ 0) where
-      pub past_key : check_of (bytes_at s start next) ≡ Good → next ≡ past_of s index at
-      unfolding past_of
-      past_key good = rw (← e, eq-eqb index 0 key, good)
-
-      pub past_bad_key : (number place : ℕ) → check_of (bytes_at s start next) ≡ Bad number place → length s ≡ past_of s index at
-      unfolding past_of
-      past_bad_key number place bad = rw (← e, eq-eqb index 0 key, bad)
-
 module _ (s : List ℕ) where
+  -- What is no whole record ends the marking.
+  pub past_stops : (index at : ℕ) (p : Part) → p ≡ part_at s at → ((w : Whole) → p ≡ Some (Ok w) → ⊥) → length s ≡ past_of s index at
+  unfolding past_of
+  past_stops index at p e h = stops p h ∙ ap (past_part s index) e
+    where
+      stops : (p : Part) → ((w : Whole) → p ≡ Some (Ok w) → ⊥) → length s ≡ past_part s index p
+      stops (Some (Ok w)) h = absurd (h w refl)
+      stops (Some (Err f)) h = refl
+      stops None h = refl
+
   past_end : (index at : ℕ) → length s ≤ at → past_of s index at ≡ length s
   unfolding past_of
   past_end index at h = rw (← end_met s at h)

@@ -5,41 +5,35 @@ ghost use Rattle.std.specs.Prelude.{◌≡◌, ◌≤◌, length};
 ghost use Rattle.script.specs.Script.{part_at, after_part};
 ghost use Rattle.walk.specs.Walk.{past_of, place_of};
 
-use record::Checked;
-use script::Part;
-
 // Where a script's first record ends; 0 where none stands whole.
 pub fn key_end(script: &[u8]) -> usize
     ensures { (result ≡ after_part (part_at script.now 0) 0) × (result ≤ length script.now) }
 {
     match script::part_at(script, 0) {
-        Part::Whole { start: _, next } => next,
-        Part::Refused {
-            number: _,
-            place: _,
-        } => 0,
-        Part::End => 0,
+        Some(Ok(whole)) => whole.next,
+        Some(Err(_)) => 0,
+        None => 0,
     }
 }
 
 // Where marking goes on after what stands at a position, as the record of an index: past a record, but the script's end after a
 // refusal 1 to 6 or any refusal of the key.
+#[tactic(auto, unfolding(crate::specs::Walk::past_of))]
 pub fn past(script: &[u8], index: usize, at: usize) -> usize
     ensures { result ≡ past_of script.now index at }
 {
     let end = script.len();
-    let Part::Whole { start, next } = script::part_at(script, at) else {
-        return end;
+    let whole = match script::part_at(script, at) {
+        Some(Ok(whole)) => whole,
+        Some(Err(_)) => return end,
+        None => return end,
     };
     if index != 0 {
-        return next;
+        return whole.next;
     }
-    match record::check(&script[start..next]) {
-        Checked::Good => next,
-        Checked::Refused {
-            number: _,
-            place: _,
-        } => end,
+    match record::check(&script[whole.start..whole.next]) {
+        Ok(()) => whole.next,
+        Err(_) => end,
     }
 }
 
@@ -56,11 +50,8 @@ pub fn place(script: &[u8], index: usize) -> usize
         return first;
     }
     match script::part_of_index(script, index - 1) {
-        Part::Whole { start: _, next } => next,
-        Part::Refused {
-            number: _,
-            place: _,
-        } => script.len(),
-        Part::End => script.len(),
+        Some(Ok(whole)) => whole.next,
+        Some(Err(_)) => script.len(),
+        None => script.len(),
     }
 }

@@ -10,7 +10,4 @@ use Rattle.record.specs.Bytes.{all_bytes}
 use Rattle.codec.proofs.put_block.Given as goal
 
 abbrev pub invariant-loop-i : goal.invariant-loop-i
-invariant-loop-i l = (l.i ≤ l.n) × (l.buf ≡ sets l.initial.buf (rows_at + row_bytes * l.first) (all_bytes row_bytes (join_below l.i (λ j. at l.t l.l j ∷ []))))
-
-abbrev pub decreases-loop-i : goal.decreases-loop-i
-decreases-loop-i l = l.n - l.i
+invariant-loop-i l = l.buf ≡ sets l.initial.buf (rows_at + row_bytes * l.first) (all_bytes row_bytes (join_below l.i (λ j. at l.t l.l j ∷ [])))

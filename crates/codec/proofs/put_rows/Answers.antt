@@ -10,30 +10,9 @@ use Rattle.codec.proofs.put_rows.Goals as goal
 
 pub loop-l-init : goal.loop-l-init
 unfolding all_bytes
-loop-l-init c = (omega arith, refl)
-
-pub put_block-requires : goal.put_block-requires
-put_block-requires c =
-    let p = c.requires in
-    (p.0, p.1, c.loop-l-test.true, rw (c.loop-l.invariant.1, length-sets) p.2)
-
-pub overflow_add-l : goal.overflow_add-l
-overflow_add-l c = omega arith
-
-pub loop-l-smaller : goal.loop-l-smaller
-loop-l-smaller c = omega arith
+loop-l-init c = refl
 
 pub loop-l-preserved : goal.loop-l-preserved
 loop-l-preserved c =
-    let a = c.args in (
-      omega arith,
-      rw (c.put_block.ensures, c.loop-l.invariant.1) (letter_stored row_bytes a.m.states (at a.t.now) a.buf.now rows_at c.loop-l.l),
-    )
-
-pub shape_of-buf : goal.shape_of-buf
-shape_of-buf c = rw (c.loop-l.invariant.1, length-sets)
-
-pub returns : goal.returns
-returns c =
-    let e : c.loop-l.l ≡ c.args.m.letters = omega arith in
-    c.loop-l.invariant.1 ∙ rw e
+    let a = c.args in
+    rw (c.put_block.ensures, c.loop-l.invariant) (letter_stored row_bytes a.m.states (at a.t.now) a.buf.now rows_at c.loop-l.l)

@@ -9,7 +9,4 @@ use Rattle.record.specs.Bytes.{all_bytes}
 use Rattle.codec.proofs.put_rows.Given as goal
 
 abbrev pub invariant-loop-l : goal.invariant-loop-l
-invariant-loop-l l = (l.l ≤ l.a) × (l.buf ≡ sets l.initial.buf rows_at (all_bytes row_bytes (rows_of l.l l.m.states (at l.t))))
-
-abbrev pub decreases-loop-l : goal.decreases-loop-l
-decreases-loop-l l = l.a - l.l
+invariant-loop-l l = l.buf ≡ sets l.initial.buf rows_at (all_bytes row_bytes (rows_of l.l l.m.states (at l.t)))

@@ -1,7 +1,5 @@
 -- `write`: its four runs of stores are the record.
 use mathlib.Core.Path.{refl, sym, ap, ◌∙◌}
-use native.Mathlib.Nat.{lt_of_lt_of_le}
-use lib.Pow.{pow_mono}
 use lib.ListN.{length}
 use Rattle.rows.specs.Machine.{automaton_in}
 use Rattle.record.specs.Record.{encode}
@@ -9,7 +7,6 @@ use Rattle.std.specs.Prelude.{Ok, Err}
 use Rattle.record.proofs.Encode.{length_encode}
 use Rattle.record.proofs.Held.{written}
 use Rattle.record.proofs.Outcome.{fit_short, fit_done}
-use borrow.Author.Rules.{rules}
 use Rattle.codec.proofs.write.Goals as goal
 
 pub returns-then-buf-whole : goal.returns-then-buf-whole
@@ -19,16 +16,6 @@ returns-then-buf-whole c =
     let l = length_encode a.m.letters A ∙ sym c.length_of-whole.ensures in
     let e = fit_short (length a.buf.now) (encode a.m.letters A) l c.if-buf-whole.true in
     record { answer = rw e (ap Err c.of.ensures); buffer = rw e refl }
-
-pub put_field-requires : goal.put_field-requires
-put_field-requires c =
-    let v = c.requires.0 in
-    (search rules, lt_of_lt_of_le v.initial (pow_mono {j = 64} v.states))
-
-pub put_field-requires-2 : goal.put_field-requires-2
-put_field-requires-2 c =
-    let v = c.requires.0 in
-    (search rules, lt_of_lt_of_le v.finals (pow_mono {j = 64} v.states))
 
 pub returns : goal.returns
 returns c =

@@ -23,13 +23,13 @@ returns c =
     let k = c.columns-d in
     let w = k.new.c in
     let o = c.below-all in
-    let f = c.fill-g in
-    let tab = f.new.tab in
+    let f = c.fill in
+    let tab = f.new.self in
     let M = chosen (mask o.result) (cell width w 0) in
-    let T = f.ensures.2 in (
+    let T = f.ensures.1 in (
       refl,
       automaton_folded m.letters a.t.now m.states (mask m.initial) (mask m.finals) c.requires.0 (mask a.p) a.b.now c.requires.1 k.result k.ensures.0 w k.ensures.1
-          (mask o.result) o.ensures.0 o.ensures.1 f.result tab f.ensures.1 T c.fold_table.new.t c.fold_table.ensures
+          (mask o.result) o.ensures.0 o.ensures.1 tab.groups tab.entries f.ensures.0 T c.fold_table.new.t c.fold_table.ensures
           (mask c.times-i.result) (mask c.and.result) (mask c.times-f.result) (c.times-i.ensures M T) c.and.ensures (c.times-f.ensures M T),
       k.ensures.2,
     )

@@ -15,7 +15,7 @@ use Rattle.folding.proofs.fold_rows.Goals.{After-and-z, After-lowest-k, In-loop-
 use Rattle.folding.proofs.fold_rows.Goals as goal
 
 pub loop-z-init : goal.loop-z-init
-loop-z-init c = let a = c.args in λ p A. (0, omega arith, A, rank_start (bit_of p), folded_start a.l p a.g a.tab.now a.t.now c.told-t)
+loop-z-init c = let a = c.args in λ p A. (0, omega arith, A, rank_start (bit_of p), folded_start a.l p a.tab.now.groups a.tab.now.entries a.t.now c.told-t)
 
 -- All pivots are ahead at first.
 ahead : (c : After-and-z) → Ahead (bit_of (mask c.args.p)) 0 c.args.n (mask c.and-z.result)
@@ -27,7 +27,7 @@ some c = some_bit (mask c.loop-z.z) c.is_none.ensures c.loop-z-test.true
 
 -- The rows folded are those of the pivots below the lowest bit, whatever the pivots are.
 reached : (c : After-lowest-k) (p : ℕ) → Ahead (bit_of p) 0 c.args.n (mask c.and-z.result)
-    → (c.lowest-k.result < c.args.n) × (bit_of p c.lowest-k.result ≡ true) × (c.loop-z.j ≡ rank (bit_of p) c.lowest-k.result) × FoldedTo c.args.l c.lowest-k.result p c.args.g c.args.tab.now c.args.t.now c.loop-z.t
+    → (c.lowest-k.result < c.args.n) × (bit_of p c.lowest-k.result ≡ true) × (c.loop-z.j ≡ rank (bit_of p) c.lowest-k.result) × FoldedTo c.args.l c.lowest-k.result p c.args.tab.now.groups c.args.tab.now.entries c.args.t.now c.loop-z.t
 reached c p A =
     let a = c.args in
     let v = c.loop-z in
@@ -35,7 +35,7 @@ reached c p A =
     let q = c.lowest-k in
     let e = q.ensures.1 in
     let f = q.ensures.2 in
-    let x = folded_over a.l i.0 q.result p a.g v.j a.tab.now a.t.now v.t (next_from (bit_of p) i.0 a.n (mask v.z) i.2 q.result e f) (between (bit_of p) i.0 a.n (mask v.z) i.2 q.result e f) i.3 i.4 in (
+    let x = folded_over a.l i.0 q.result p a.tab.now.groups v.j a.tab.now.entries a.t.now v.t (next_from (bit_of p) i.0 a.n (mask v.z) i.2 q.result e f) (between (bit_of p) i.0 a.n (mask v.z) i.2 q.result e f) i.3 i.4 in (
       next_below (bit_of p) i.0 a.n (mask v.z) i.2 q.result e f,
       next_pivot (bit_of p) i.0 a.n (mask v.z) i.2 q.result e f,
       x.0,
@@ -71,7 +71,7 @@ loop-z-preserved c = λ p A.
       omega (arith, x.0),
       ahead_next (bit_of p) i.0 a.n (mask v.z) i.2 q.result q.ensures.1 q.ensures.2 (mask c.clear_lowest-z.result) (some (goal.at.loop-z-smaller c).In-loop-z) c.clear_lowest-z.ensures,
       ap (λ r. r + 1) x.2 ∙ sym (rank_step_pivot (bit_of p) q.result x.1),
-      folded_pivot a.l q.result p a.g a.tab.now a.t.now v.t x.3 c.requires.0 q.ensures.0 x.1 v.j (mask c.load-x.result) (mask c.times-y.result) c.store.new.t x.2 c.load-x.ensures c.times-y.ensures c.store.ensures,
+      folded_pivot a.l q.result p a.tab.now.groups a.tab.now.entries a.t.now v.t x.3 c.requires.0 q.ensures.0 x.1 v.j (mask c.load-x.result) (mask c.times-y.result) c.store.new.t x.2 c.load-x.ensures c.times-y.ensures c.store.ensures,
     )
 
 pub returns : goal.returns
@@ -80,4 +80,4 @@ returns c =
     let p = mask a.p in
     let v = c.loop-z in
     let i = v.invariant p (ahead (goal.at.returns c).After-and-z) in
-    (folded_over a.l i.0 a.n p a.g v.j a.tab.now a.t.now v.t i.1 (ahead_end (bit_of p) i.0 a.n (mask v.z) i.2 (no_bit (mask v.z) c.is_none.ensures c.loop-z-test.false)) i.3 i.4).1
+    (folded_over a.l i.0 a.n p a.tab.now.groups v.j a.tab.now.entries a.t.now v.t i.1 (ahead_end (bit_of p) i.0 a.n (mask v.z) i.2 (no_bit (mask v.z) c.is_none.ensures c.loop-z-test.false)) i.3 i.4).1

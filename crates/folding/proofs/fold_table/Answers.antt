@@ -7,4 +7,4 @@ pub loop-l-preserved : goal.loop-l-preserved
 loop-l-preserved c =
     let v = c.loop-l in
     let a = c.args in
-    blocks_step v.l a.n (mask a.p) a.g a.tab.now a.t.now v.t c.fold_rows.new.t c.requires.1 c.fold_rows.ensures v.invariant
+    blocks_step v.l a.n (mask a.p) a.tab.now.groups a.tab.now.entries a.t.now v.t c.fold_rows.new.t c.requires.1 c.fold_rows.ensures v.invariant

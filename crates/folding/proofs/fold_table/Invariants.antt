@@ -4,4 +4,4 @@ use Rattle.folding.specs.Folding.{FoldedBlocks}
 use Rattle.folding.proofs.fold_table.Given as goal
 
 abbrev pub invariant-loop-l : goal.invariant-loop-l
-invariant-loop-l l = FoldedBlocks l.l l.n (mask l.p) l.g l.tab l.initial.t l.t
+invariant-loop-l l = FoldedBlocks l.l l.n (mask l.p) l.tab.groups l.tab.entries l.initial.t l.t

@@ -1,5 +1,5 @@
 -- `meet`: the answer and the buffer by the checks, row 10 and the result, for the record that the second one stands for; the claims follow.
-use mathlib.Core.Path.{◌≡◌, refl, sym, ap, ap₂, subst, ◌∙◌}
+use mathlib.Core.Path.{◌≡◌, sym, ap, ap₂, subst, ◌∙◌}
 use mathlib.Core.List.{List}
 use Prim.Native.Nat.{ℕ, ◌*◌}
 use native.Mathlib.Nat.{mul-le-mul}
@@ -14,7 +14,8 @@ use Rattle.record.specs.Record.{letters_of, automaton_of}
 use Rattle.record.specs.Claims.{Operands}
 use Rattle.record.proofs.Refusals.{returned}
 use Rattle.operands.specs.Meant.{meant_over}
-use Rattle.operands.proofs.PairLaws.{both_passed}
+use Rattle.operands.proofs.PairLaws.{both_passed, pair_good}
+use Rattle.minimal.specs.Minimal.{MinimalIn}
 use Rattle.intersection.proofs.MeetLaws.{meet_held, meet_refused, meet_over, within, meet_refuses, meet_gives}
 use Rattle.intersection.proofs.meet.Goals.{After-minimal_form-h}
 use Rattle.intersection.proofs.meet.Goals as goal
@@ -23,34 +24,38 @@ use Rattle.intersection.proofs.meet.Goals as goal
 abbrev second : After-minimal_form-h → List ℕ
 second c = meant_over (letters_of c.args.first.now) c.args.second.now
 
--- Past the checks both records are well formed, over the same letters.
-passed : (c : After-minimal_form-h) → Operands c.args.first.now (second c)
-passed c = both_passed _ _ (sym (rw c.meant-right.ensures at c.in_ok-check_pair.ensures))
+-- The records that were checked are the first and what the second stands for.
+one : (c : After-minimal_form-h) → c.in_ok-pair.pair.first.bytes.now ≡ c.args.first.now
+one c = c.in_ok-pair.ensures.0
 
--- The second minimal automaton is over the first record's letters.
+two : (c : After-minimal_form-h) → c.in_ok-pair.pair.second.bytes.now ≡ second c
+two c = c.in_ok-pair.ensures.1 ∙ c.meant-right.ensures
+
+-- Past the checks both are well formed, over the same letters.
+passed : (c : After-minimal_form-h) → Operands c.args.first.now (second c)
+passed c = both_passed _ _ (sym (pair_good c.args.first.now (second c) c.in_ok-pair.pair (one c) (two c)))
+
+-- The minimal automata are those of the two, over the first record's letters.
+first_minimal : (c : After-minimal_form-h) → MinimalIn c.args.first.now c.minimal_form-g.new.out c.minimal_form-g.result
+first_minimal c = rw (one c) at c.minimal_form-g.ensures
+
 minimised : (c : After-minimal_form-h) → Minimises (letters_of c.args.first.now) (automaton_of (second c)) c.minimal_form-h.new.out c.minimal_form-h.result.states (mask c.minimal_form-h.result.initial) (mask c.minimal_form-h.result.finals)
 minimised c =
     let h = c.minimal_form-h in
-    let e = rw c.meant-right.ensures at h.ensures.1 in
+    let e = rw (two c) at h.ensures.1 in
     subst (λ k. Minimises k (automaton_of (second c)) h.new.out h.result.states (mask h.result.initial) (mask h.result.finals)) (sym (passed c).2) e
 
 -- The states of the two make the product of the dimensions.
 dimensions : (c : After-minimal_form-h) → c.minimal_form-g.result.states * c.minimal_form-h.result.states ≡ dimension_of (letters_of c.args.first.now) (automaton_of c.args.first.now) * dimension_of (letters_of c.args.first.now) (automaton_of (second c))
-dimensions c = ap₂ ◌*◌ c.minimal_form-g.ensures.1.dimension (minimised c).dimension
+dimensions c = ap₂ ◌*◌ (first_minimal c).1.dimension (minimised c).dimension
 
-pub returns-in_err-check_pair : goal.returns-in_err-check_pair
-returns-in_err-check_pair c =
+pub returns-in_err-pair : goal.returns-in_err-pair
+returns-in_err-pair c =
     let a = c.args in
     let cs = meant_over (letters_of a.first.now) a.second.now in
-    let e = meet_refused a.first.now cs (length a.out.now) (rw c.meant-right.ensures at c.in_err-check_pair.ensures) in
+    let e = meet_refused a.first.now cs (length a.out.now) (rw c.meant-right.ensures at c.in_err-pair.ensures) in
     let p = meet_refuses a.first.now cs a.out.now _ c.from_residual.result e (returned c.from_residual.result c.from_residual.ensures.1) in
     record { answer = p.0; buffer = p.1.0; claims = p.1.1 }
-
-pub minimal_form-g-requires : goal.minimal_form-g-requires
-minimal_form-g-requires c = ((both_passed _ _ (sym c.in_ok-check_pair.ensures)).0, refl)
-
-pub minimal_form-h-requires : goal.minimal_form-h-requires
-minimal_form-h-requires c = ((both_passed _ _ (sym c.in_ok-check_pair.ensures)).1, refl)
 
 pub overflow_mul-d : goal.overflow_mul-d
 overflow_mul-d c = omega (arith, mul-le-mul c.minimal_form-g.ensures.1.bounded.states c.minimal_form-h.ensures.1.bounded.states)
@@ -70,7 +75,7 @@ product-m-requires c =
     let g = c.minimal_form-g in (
       subst (λ a. Bounded a g.new.out g.result.states (mask g.result.initial) (mask g.result.finals)) (sym g.ensures.0) g.ensures.1.bounded,
       subst (λ a. Bounded a h.new.out h.result.states (mask h.result.initial) (mask h.result.finals)) (sym h.ensures.0) h.ensures.1.bounded,
-      h.ensures.0 ∙ sym (both_passed _ _ (sym c.in_ok-check_pair.ensures)).2 ∙ sym g.ensures.0,
+      h.ensures.0 ∙ c.in_ok-pair.pair.alike ∙ sym g.ensures.0,
       omega arith,
     )
 
@@ -88,7 +93,7 @@ returns c =
     let g = c.minimal_form-g in
     let h = c.minimal_form-h in
     let m = c.product-m in
-    let built = meet_held (letters_of bs) g.result.letters bs cs g.new.out h.new.out m.new.s g.result h.result m.result g.ensures.0 g.ensures.1 (minimised at) m.ensures in
+    let built = meet_held (letters_of bs) g.result.letters bs cs g.new.out h.new.out m.new.s g.result h.result m.result (first_minimal at).0 (first_minimal at).1 (minimised at) m.ensures in
     let small = within bs cs (passed at) _ (dimensions at) (omega arith) in
     let p = meet_gives bs cs a.out.now m.new.s m.result f.new.out f.result (passed at, small) built f.ensures.answer f.ensures.buffer in
     record { answer = p.0; buffer = p.1.0; claims = p.1.1 }

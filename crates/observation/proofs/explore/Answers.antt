@@ -14,11 +14,11 @@ none_yet j i = false
 pub insert-s-requires : goal.insert-s-requires
 insert-s-requires c =
     let e = c.empty.ensures in
-    let v = c.requires.0 in
-    (v.states, v.states, omega (arith, c.requires.1), v.initial, (none_yet, rw (e.0, e.1) (empty_basis width _ none_yet _)), rw e.0 (empty_cover width _ _))
+    let v = c.args.x.valid in
+    (v.states, v.states, omega arith, v.initial, (none_yet, rw (e.0, e.1) (empty_basis width _ none_yet _)), rw e.0 (empty_cover width _ _))
 
 pub explore_rows-requires : goal.explore_rows-requires
 explore_rows-requires c =
     let e = c.empty.ensures in
     let P = (rw (e.0, e.1, e.2) at c.insert-s.ensures) none_yet (empty_basis width _ none_yet _) in
-    (c.requires.0, found_start _ _ _ _ _ _ _ _ _ _ c.requires.1 none_yet P.0 P.1 P.2)
+    found_start _ _ _ _ _ _ _ _ _ _ (omega arith) none_yet P.0 P.1 P.2

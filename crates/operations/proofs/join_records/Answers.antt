@@ -9,14 +9,14 @@ pub join-requires : goal.join-requires
 join-requires g c =
     let x = c.read-g.ensures in
     let y = c.read-h.ensures in
-    let f = (good_check _ c.requires.0.0).front in
-    let k = (good_check _ c.requires.0.1).front in
-    (x.valid, y.valid, y.letters ∙ sym c.requires.0.2 ∙ sym x.letters, omega arith, omega arith)
+    let f = (good_check _ c.args.pair.first.well_formed).front in
+    let k = (good_check _ c.args.pair.second.well_formed).front in
+    (x.valid, y.valid, y.letters ∙ c.args.pair.alike ∙ sym x.letters, omega arith, omega arith)
 
 pub returns : goal.returns
 returns g c =
     let x = c.read-g in
     let y = c.read-h in (
-      join_held _ g.met.O.Binary.same _ _ x.new.t y.new.t c.join.new.t x.result y.result c.join.result c.requires.0.2 x.ensures y.ensures c.join.ensures,
+      join_held _ g.met.O.Binary.same _ _ x.new.t y.new.t c.join.new.t x.result y.result c.join.result (sym c.args.pair.alike) x.ensures y.ensures c.join.ensures,
       y.ensures.valid.size,
     )

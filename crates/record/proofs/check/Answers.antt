@@ -7,13 +7,13 @@ use Rattle.std.proofs.lemmas.Result.{err_from_is_err_and}
 use Rattle.record.specs.Rules.{fault}
 use Rattle.record.specs.declared.Rule.TheVariants.{WrongLength}
 use Rattle.record.proofs.Refusals.{good_front, front_met, length_met, fields_met, area}
-use Rattle.record.proofs.check.Goals.{After-size-a}
+use Rattle.record.proofs.check.Goals.{After-from-a}
 use Rattle.record.proofs.check.Goals as goal
 
-few : (c : After-size-a) → c.size-a.result * c.size-n.result ≤ 256
+few : (c : After-from-a) → c.from-a.result * c.from-n.result ≤ 256
 few c =
     let f = good_front _ (sym c.in_ok-check_front.ensures) in
-    area c.size-a.result c.size-n.result (omega arith) (omega arith)
+    area c.from-a.result c.from-n.result (omega arith) (omega arith)
 
 pub returns-in_err-check_front : goal.returns-in_err-check_front
 returns-in_err-check_front c =
@@ -30,10 +30,10 @@ pub check_fields-requires : goal.check_fields-requires
 check_fields-requires c =
     let f = good_front _ (sym c.in_ok-check_front.ensures) in
     let l = c.if-bytes-whole.false ∙ c.need-whole.ensures in
-    rw (c.size-a.ensures.0, c.size-n.ensures.0) (f.states, omega arith)
+    rw (c.from-a.ensures, c.from-n.ensures) (f.states, omega arith)
 
 pub returns : goal.returns
 returns c =
     c.check_fields.ensures
-    ∙ rw (c.size-a.ensures.0, c.size-n.ensures.0)
+    ∙ rw (c.from-a.ensures, c.from-n.ensures)
     (fields_met _ (sym c.in_ok-check_front.ensures) (c.if-bytes-whole.false ∙ c.need-whole.ensures))

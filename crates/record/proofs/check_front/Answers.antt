@@ -18,11 +18,11 @@ returns-then-bytes-ne88 c = ap Err c.at-then-bytes-ne88.ensures ∙ mark₁_met 
 pub returns-then-bytes-ne65 : goal.returns-then-bytes-ne65
 returns-then-bytes-ne65 c = ap Err c.at-then-bytes-ne65.ensures ∙ mark₂_met _ (omega arith) (omega arith) (omega arith) c.if-bytes-ne65.true
 
-pub returns-then-size-ne-VERSION : goal.returns-then-size-ne-VERSION
-returns-then-size-ne-VERSION c = ap Err c.at-then-size-ne-VERSION.ensures ∙ version_met _ (omega arith) (omega arith) (omega arith) (omega arith) (λ e. let f = rw number_2 at e in c.if-size-ne-VERSION.true (omega arith))
+pub returns-then-from-ne-VERSION : goal.returns-then-from-ne-VERSION
+returns-then-from-ne-VERSION c = ap Err c.at-then-from-ne-VERSION.ensures ∙ version_met _ (omega arith) (omega arith) (omega arith) (omega arith) (λ e. let f = rw number_2 at e in c.if-from-ne-VERSION.true (omega arith))
 
-pub returns-then-size-gt-MAX_STATES : goal.returns-then-size-gt-MAX_STATES
-returns-then-size-gt-MAX_STATES c = ap Err c.at-then-size-gt-MAX_STATES.ensures ∙ states_met _ (omega arith) (omega arith) (omega arith) (omega arith) (rw number_2 (omega arith)) (omega arith)
+pub returns-then-from-gt-MAX_STATES : goal.returns-then-from-gt-MAX_STATES
+returns-then-from-gt-MAX_STATES c = ap Err c.at-then-from-gt-MAX_STATES.ensures ∙ states_met _ (omega arith) (omega arith) (omega arith) (omega arith) (rw number_2 (omega arith)) (omega arith)
 
 pub returns-then-a-eq0 : goal.returns-then-a-eq0
 returns-then-a-eq0 c = ap Err c.at-then-a-eq0.ensures ∙ no_letter_met _ (omega arith) (omega arith) (omega arith) (omega arith) (rw number_2 (omega arith)) (omega arith) (omega arith)

@@ -5,4 +5,4 @@ use Rattle.record.proofs.Bytes.{number_4}
 use Rattle.record.proofs.field_at.Goals as goal
 
 pub returns : goal.returns
-returns c = c.from_u64.ensures ∙ rw number_4 (omega arith)
+returns c = c.from-2.ensures ∙ c.from.ensures ∙ c.from_le_bytes-x.ensures ∙ rw number_4 (omega arith)

@@ -14,4 +14,4 @@ pub length_of-requires : goal.length_of-requires
 length_of-requires c = let w = good_front _ c.requires in omega arith
 
 pub returns : goal.returns
-returns c = c.length_of.ensures ∙ rw (c.size-2.ensures.0, c.size.ensures.0)
+returns c = c.length_of.ensures ∙ rw (c.from-2.ensures, c.from.ensures)

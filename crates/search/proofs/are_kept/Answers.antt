@@ -19,8 +19,8 @@ made c = let P = c.requires.0 in rw (P.states, P.letters) c.times_both.ensures.1
 
 pub keeps-requires : goal.keeps-requires
 keeps-requires c =
-    (c.requires.2, (paired_sizes c.args.first.now c.args.second.now c.args.m c.requires.0).2)
+    (paired_sizes c.args.first.now c.args.second.now c.args.m c.requires.0).2
 
 pub returns : goal.returns
 returns c =
-    λ e M T l h. subst (Kept c.args.g M) (made (goal.at.returns c).After-times_both l h) (c.keeps.ensures e M T l h)
+    λ e M T l h. subst (Kept c.args.tab.now.groups M) (made (goal.at.returns c).After-times_both l h) (c.keeps.ensures e M T l h)

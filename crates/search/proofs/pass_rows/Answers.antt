@@ -30,7 +30,7 @@ are_kept-requires c =
     let a = c.args in
     let v = c.loop-j in
     let N = next (goal.at.are_kept-requires c).At-loop-j in
-    (c.requires.0, found_below a.stride a.m.letters (beside_of a.first.now a.second.now) a.m.states (mask a.m.initial) (mask a.m.finals) a.b.now N.0 a.s.count v.j 0 (mask a.s.pivots) (mask a.s.used) (mask c.get-x.result) N.1 c.loop-j-test.true c.get-x.ensures, c.fill-g.ensures.0)
+    (c.requires.0, found_below a.stride a.m.letters (beside_of a.first.now a.second.now) a.m.states (mask a.m.initial) (mask a.m.finals) a.b.now N.0 a.s.count v.j 0 (mask a.s.pivots) (mask a.s.used) (mask c.get-x.result) N.1 c.loop-j-test.true c.get-x.ensures)
 
 pub loop-j-preserved : goal.loop-j-preserved
 loop-j-preserved c =
@@ -39,7 +39,8 @@ loop-j-preserved c =
     let bs = a.first.now in
     let cs = a.second.now in
     let v = c.loop-j in
-    let t = c.fill-g.ensures in
+    let tab = c.fill.new.self in
+    let t = c.fill.ensures in
     let x = c.get-x in
     let h = c.loop-j-test.true in
-    λ w H. row_kept a.stride m.letters (beside_of bs cs) m.states (mask m.initial) (mask m.finals) (paired_rows bs cs m c.requires.0) a.b.now w a.s.count (mask a.s.pivots) (mask a.s.used) c.fill-g.result t.1 v.j (mask x.result) h x.ensures (c.are_kept.ensures c.if-not-are_kept.false (chosen (mask a.s.pivots) (cell a.stride a.b.now 0)) t.2) (v.invariant w H)
+    λ w H. row_kept a.stride m.letters (beside_of bs cs) m.states (mask m.initial) (mask m.finals) (paired_rows bs cs m c.requires.0) a.b.now w a.s.count (mask a.s.pivots) (mask a.s.used) tab.groups t.0 v.j (mask x.result) h x.ensures (c.are_kept.ensures c.if-not-are_kept.false (chosen (mask a.s.pivots) (cell a.stride a.b.now 0)) t.1) (v.invariant w H)

@@ -3,12 +3,11 @@ use mathlib.Core.Path.{◌≡◌, sym, ◌∙◌}
 use mathlib.Core.Bool.{true, false}
 use native.Mathlib.Omega.{arith}
 use Rattle.rows.specs.Row.{mask}
-use Rattle.rows.proofs.BitLaws.{same_told}
 use Rattle.hunt.proofs.BothLaws.{paired_sizes}
 use Rattle.verdict.proofs.RowLaws.{side_told, row_start}
 use Rattle.unary.specs.Powers.{Powers}
 use Rattle.unary.proofs.PowerLaws.{powers_start, powers_told, powers_found, powers_next}
-use Rattle.unary.proofs.TryLaws.{initial_again, still_undecided}
+use Rattle.unary.proofs.TryLaws.{initial_again, still_undecided, same_row}
 use Rattle.unary.proofs.first_power.Goals.{Else-parity, Start}
 use Rattle.unary.proofs.first_power.Goals as goal
 
@@ -46,13 +45,13 @@ one c R =
     powers_next a.first.now a.second.now m P c.requires.1 a.w.now 0 (mask m.initial) R c.requires.0 (mask q.result) q.ensures l.new.w l.ensures
     (powers_told a.first.now a.second.now m P c.requires.1 a.w.now 0 (mask m.initial) R c.requires.0 (mask q.result) q.ensures l.new.w l.ensures c.parity.result false c.parity.ensures c.if-parity.false)
 
-pub returns-then-is_none : goal.returns-then-is_none
-returns-then-is_none c =
+pub returns-then-eq : goal.returns-then-eq
+returns-then-eq c =
     let a = c.args in
     let q = c.times_pair-z in
-    let k = goal.at.returns-then-is_none c in
+    let k = goal.at.returns-then-eq c in
     initial_again a.first.now a.second.now a.m c.requires.2.paired c.link.new.w (mask q.result) (one k.Else-parity (begun k.Start)) c.requires.1
-    (same_told (mask q.result) (mask a.m.initial) c.xor.ensures c.is_none.ensures c.if-is_none.true)
+    (same_row q.result a.m.initial c.eq.result c.eq.ensures c.if-eq.true)
 
 pub powers_in-requires : goal.powers_in-requires
 powers_in-requires c =

@@ -6,13 +6,12 @@ use native.Mathlib.Omega.{arith}
 use lib.ListN.{length}
 use Rattle.rows.specs.Row.{mask}
 use Rattle.rows.specs.Product.{product}
-use Rattle.rows.proofs.BitLaws.{same_told}
 use Rattle.record.specs.Record.{states_of}
 use Rattle.hunt.specs.Both.{beside_of}
 use Rattle.hunt.proofs.BothLaws.{paired_sizes}
 use Rattle.verdict.proofs.RowLaws.{side_told}
 use Rattle.unary.proofs.PowerLaws.{powers_told, powers_found, powers_next}
-use Rattle.unary.proofs.TryLaws.{row_fits, trying_next, trying_old}
+use Rattle.unary.proofs.TryLaws.{row_fits, trying_next, trying_old, same_row}
 use Rattle.unary.proofs.try_lengths.Goals.{After-times-y}
 use Rattle.unary.proofs.try_lengths.Goals as goal
 
@@ -22,13 +21,13 @@ insert-p-requires g c =
     let a = c.args in
     (v.invariant.1.shape, rw v.invariant.0 (row_fits a.first.now a.second.now a.m c.requires.4.paired v.w v.e v.k (mask v.t.row) (length a.e.now) v.invariant.1.powers c.requires.1))
 
-pub returns-then-is_none : goal.returns-then-is_none
-returns-then-is_none g c =
+pub returns-then-eq : goal.returns-then-eq
+returns-then-eq g c =
     let a = c.args in
     let v = c.loop-k in
     let i = c.insert-p in
     trying_old a.first.now a.second.now a.m c.requires.4.paired v.w v.k (mask v.t.row) (mask v.t.pivots) v.e v.invariant.1 (mask i.result) i.new.e i.ensures c.requires.0
-    (same_told (mask i.result) (mask v.t.pivots) c.xor.ensures c.is_none.ensures c.if-is_none.true)
+    (same_row i.result v.t.pivots c.eq.result c.eq.ensures c.if-eq.true)
 
 pub link-requires : goal.link-requires
 link-requires g c =

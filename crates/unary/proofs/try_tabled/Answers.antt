@@ -17,6 +17,7 @@ try_lengths-requires c =
     let a = c.args in
     let bs = a.first.now in
     let cs = a.second.now in
-    let t = c.fill-c in
-    let made = λ (y : Row) (z : ℕ) (h : mask y < 2 ^ (states_of bs + states_of cs)) (e : z ≡ product (t.result * 4) (mask y) (row_beside bs cs 0)). e ∙ beside_product bs cs 0 t.result (mask y) h t.ensures.1 in
+    let t = c.fill in
+    let k = t.new.tab.groups in
+    let made = λ (y : Row) (z : ℕ) (h : mask y < 2 ^ (states_of bs + states_of cs)) (e : z ≡ product (k * 4) (mask y) (row_beside bs cs 0)). e ∙ beside_product bs cs 0 k (mask y) h t.ensures.0 in
     search rules

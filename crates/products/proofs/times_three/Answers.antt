@@ -1,8 +1,0 @@
--- `times_three`: the three rows of the products with three letters.
-use Rattle.std.proofs.Common.{arith}
-use Rattle.rows.specs.Row.{mask_at}
-use Rattle.products.proofs.times_three.Goals as goal
-
-pub returns : goal.returns
-unfolding mask_at
-returns c = let p = c.times_each.ensures in (p 0 (omega arith), p 1 (omega arith), p 2 (omega arith))
