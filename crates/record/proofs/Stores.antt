@@ -1,7 +1,7 @@
 -- Runs of stores into a buffer, one after another.
 use mathlib.Core.Path.{◌≡◌, refl, sym, ◌∙◌}
 use mathlib.Core.List.{List, [], ◌∷◌, ◌++◌}
-use Prim.Native.Nat.{ℕ, suc, ◌+◌, ◌*◌, ◌/◌, ◌%◌, ◌≤◌}
+use Prim.Native.Nat.{ℕ, suc, ◌+◌, ◌*◌, ◌≤◌}
 use native.Mathlib.Nat.{add-zero, zero-add, suc-add, add-suc, mul-one}
 use native.Mathlib.Numerals.{add-one}
 use native.Mathlib.Omega.{arith}
@@ -52,13 +52,3 @@ runs h i f r l eh ei ef =
 -- A run from the front leaves what was stored and the rest of the buffer.
 pub sets_front : (xs l : List ℕ) → length xs ≤ length l → sets l 0 xs ≡ xs ++ drop (length xs) l
 sets_front xs l h = sets-eq xs l 0 (rw zero-add h) ∙ rw zero-add
-
--- Four stores in a row.
-pub sets_4 : (l : List ℕ) (p x : ℕ) {a b c d : ℕ} → a ≡ x % 256 → b ≡ x / 256 % 256 → c ≡ x / 256 / 256 % 256 → d ≡ x / 256 / 256 / 256 % 256
-    → set (set (set (set l p a) (p + 1) b) (p + 2) c) (p + 3) d ≡ sets l p (bytes_of 4 x)
-unfolding bytes_of
-sets_4 l p x ea eb ec ed =
-    let one : p + 1 ≡ suc p = omega arith in
-    let two : p + 2 ≡ suc (suc p) = omega arith in
-    let three : p + 3 ≡ suc (suc (suc p)) = omega arith in
-    rw (ea, eb, ec, ed, one, two, three)

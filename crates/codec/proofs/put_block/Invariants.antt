@@ -1,7 +1,7 @@
 -- `put_block`: the bytes of the rows passed are stored.
 use mathlib.Core.Path.{◌≡◌}
 use mathlib.Core.List.{[], ◌∷◌}
-use Prim.Native.Nat.{◌+◌, ◌-◌, ◌*◌, ◌≤◌}
+use Prim.Native.Nat.{◌+◌, ◌*◌}
 use lib.Seq.{sets}
 use Rattle.automata.specs.WordList.{join_below}
 use Rattle.rows.specs.Table.{at}

@@ -1,7 +1,5 @@
 -- `put_rows`: the bytes of the letters passed are stored.
-use mathlib.Core.Path.{◌≡◌, refl, ◌∙◌}
-use native.Mathlib.Omega.{arith}
-use lib.Seq.{length-sets}
+use mathlib.Core.Path.{refl}
 use Rattle.rows.specs.Table.{at}
 use Rattle.record.specs.Record.{row_bytes, rows_at}
 use Rattle.record.specs.Bytes.{all_bytes}

@@ -1,6 +1,5 @@
 -- `put_rows`: the bytes of the letters passed are stored.
 use mathlib.Core.Path.{◌≡◌}
-use Prim.Native.Nat.{◌-◌, ◌≤◌}
 use lib.Seq.{sets}
 use Rattle.automata.specs.Fields.{rows_of}
 use Rattle.rows.specs.Table.{at}
