@@ -12,6 +12,7 @@ use elimination::Size;
 use rows::{Row, Source};
 
 // Row k of the basis by every letter.
+// The loop is that of reduction's `expand`: with the step as a closure, what holds between two letters would have to be said of it.
 fn explore_row(x: Source, b: &mut Basis, s: Size, k: usize) -> Size
     requires { FoundBy x b.old s × (k < s.count) }
     ensures { ExpandedBy x.entry b.old s.count k b.new result }

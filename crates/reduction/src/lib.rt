@@ -70,6 +70,7 @@ impl<'a> Reduction<'a> {
     }
 
     // Row k by every letter, where as many rows are found as there are states: each product is an xor of them, and tab tells of which.
+    // The loop is that of `expand`: with the step as a closure, what holds between two letters would have to be said of it.
     fn look_up_row(&mut self, tab: &Lookup, k: usize)
         requires { Before self.old k 0 × (k < self.old.size.count) × (self.old.size.count ≡ self.old.source.machine.states) × Coefficients tab.now.groups (mask self.old.size.pivots) self.old.basis.now tab.now.entries }
         ensures { Before self.new (k + 1) 0 × Filled self.old self.new }
