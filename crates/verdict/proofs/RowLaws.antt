@@ -1,6 +1,6 @@
 -- The rows that words lead to in two records side by side: whether just one record accepts a word is read off its row.
 use mathlib.Core.Path.{◌≡◌, sym, ap, ap₂, subst, ◌∙◌}
-use mathlib.Core.Bool.{Bool, true, ◌&&◌, and_comm, and-false}
+use mathlib.Core.Bool.{true, ◌&&◌, and_comm, and-false}
 use mathlib.Core.List.{List, [], ◌∷◌, ◌++◌}
 use mathlib.Core.Logic.{inl, inr}
 use mathlib.Core.Option.{none}

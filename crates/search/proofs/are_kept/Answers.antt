@@ -1,17 +1,10 @@
 -- `are_kept`: the products stand in a line.
-use mathlib.Core.Path.{refl, sym, subst}
 use Rattle.rows.specs.Row.{mask}
 use Rattle.kernels.specs.Products.{Products}
-use Rattle.lookup.specs.Lookup.{Kept}
 use Rattle.hunt.specs.Both.{beside_of}
 use Rattle.hunt.proofs.BothLaws.{paired_sizes}
 use Rattle.search.proofs.are_kept.Goals.{After-times_both}
 use Rattle.search.proofs.are_kept.Goals as goal
-
-pub times_both-requires : goal.times_both-requires
-times_both-requires c =
-    let P = c.requires.0 in
-    (P.first, P.second, sym P.same, rw P.states at c.requires.1, refl)
 
 -- The line has the products of the row.
 made : (c : After-times_both) → Products c.args.m.letters c.args.m.states (mask c.args.x) (beside_of c.args.first.now c.args.second.now) c.times_both.new.s

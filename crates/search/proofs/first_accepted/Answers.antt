@@ -20,6 +20,3 @@ try_rows-requires c =
     let r = q.result in
     let S = q.ensures in
     (c.requires.0, hunting_start a.stride m.letters (beside_of a.first.now a.second.now) m.states (mask m.initial) (mask m.finals) S.coef S.coef' S.made a.b.now q.new.b a.w.now r.count (mask r.pivots) (mask r.used) S.placed c.requires.2 c.requires.1 c.requires.3 c.requires.4)
-
-pub returns : goal.returns
-returns c = c.try_rows.ensures

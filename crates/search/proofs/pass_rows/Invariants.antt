@@ -1,7 +1,6 @@
 -- `pass_rows`: the rows from k to j are done for every trail.
 use Rattle.trail.specs.declared.Step.{Step}
 use mathlib.Core.List.{List}
-use Prim.Native.Nat.{ℕ}
 use Rattle.hunt.specs.Hunt.{HuntingIn}
 use Rattle.search.proofs.pass_rows.Given as goal
 

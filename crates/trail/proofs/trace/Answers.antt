@@ -1,6 +1,5 @@
 -- `trace`: the letters from p on are written, and the word of row r is what comes before.
 use mathlib.Core.Path.{◌≡◌}
-use Prim.Native.Nat.{◌<◌, ◌≤◌}
 use native.Mathlib.Omega.{arith}
 use Rattle.trail.specs.Trail.{by_in}
 use Rattle.trail.proofs.TraceLaws.{writing_step, writing_end}

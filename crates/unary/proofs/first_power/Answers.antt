@@ -1,5 +1,5 @@
 -- `first_power`: z is the row of one letter.
-use mathlib.Core.Path.{◌≡◌, sym, ◌∙◌}
+use mathlib.Core.Path.{sym}
 use mathlib.Core.Bool.{true, false}
 use native.Mathlib.Omega.{arith}
 use Rattle.rows.specs.Row.{mask}

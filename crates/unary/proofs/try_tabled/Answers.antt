@@ -1,13 +1,11 @@
 -- `try_tabled`: what the table gives is the product with the two side by side.
 use mathlib.Core.Path.{◌≡◌, ◌∙◌}
 use Prim.Native.Nat.{ℕ, ◌+◌, ◌*◌, ◌^◌, ◌<◌}
-use native.Mathlib.Omega.{arith}
 use borrow.Author.Rules.{rules}
 use Rattle.rows.specs.declared.Row.{Row}
 use Rattle.rows.specs.Row.{mask}
 use Rattle.rows.specs.Product.{product}
 use Rattle.record.specs.Record.{states_of}
-use Rattle.hunt.specs.Both.{beside_of}
 use Rattle.pair_lookup.specs.Rows.{row_beside}
 use Rattle.pair_lookup.proofs.RowsLaws.{beside_product}
 use Rattle.unary.proofs.try_tabled.Goals as goal

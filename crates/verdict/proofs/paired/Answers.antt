@@ -1,8 +1,6 @@
 -- `paired`: the fields of the second record are moved up by the states of the first.
-use mathlib.Core.Path.{ap₂, ◌∙◌}
-use Prim.Native.Nat.{◌+◌, ◌*◌, ◌^◌, ◌≤◌}
+use Prim.Native.Nat.{◌≤◌}
 use native.Mathlib.Omega.{arith}
-use lib.Bits.{bit_xor}
 use lib.ListN.{length}
 use Rattle.rows.proofs.BesideLaws.{moved_fits}
 use Rattle.record.specs.Record.{states_of}
@@ -48,23 +46,5 @@ field_at-requires-3 c = omega (arith, (front (goal.at.field_at-requires-3 c).Sta
 pub field_at-requires-4 : goal.field_at-requires-4
 field_at-requires-4 c = omega (arith, (front (goal.at.field_at-requires-4 c).Start).0)
 
-pub overflow_add-result : goal.overflow_add-result
-overflow_add-result c =
-    let f = front (goal.at.overflow_add-result c).Start in
-    omega (arith, c.size-n.ensures, c.size-k.ensures, f.2, f.3)
-
 pub bounds-first-6 : goal.bounds-first-6
 bounds-first-6 c = omega (arith, (front (goal.at.bounds-first-6 c).Start).0)
-
-pub returns : goal.returns
-returns c =
-    let e = c.size-n.ensures.0 in
-    record {
-      first = c.requires.0;
-      second = c.requires.1;
-      same = c.requires.2;
-      states = ap₂ ◌+◌ e c.size-k.ensures.0;
-      letters = c.size.ensures.0;
-      initial = c.xor-initial.ensures ∙ ap₂ bit_xor c.field_at-3.ensures (c.moved-i.ensures ∙ ap₂ (λ x n. x * 2 ^ n) c.field_at.ensures e);
-      finals = c.xor-finals.ensures ∙ ap₂ bit_xor c.field_at-4.ensures (c.moved-f.ensures ∙ ap₂ (λ x n. x * 2 ^ n) c.field_at-2.ensures e);
-    }
