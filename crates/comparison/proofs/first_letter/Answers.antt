@@ -35,8 +35,8 @@ returns-then-parity c =
     let q = c.times_pair-z in
     let h = c.loop-l-test.true in
     rw c.parted.ensures.row (letter_found bs cs a.m U.paired U.empty v.l (mask q.result) h q.ensures v.w c.link.new.w v.invariant.0 c.link.ensures
-        c.parted.result.side (side_told bs U.paired.first (mask a.g) (mask q.result) c.parted.result.side U.column c.parted.ensures.side)
-        (letter_told bs cs a.m U.paired U.empty v.l (mask q.result) h q.ensures c.parity.result true c.parity.ensures c.if-parity.true) v.invariant.1)
+    c.parted.result.side (side_told bs U.paired.first (mask a.g) (mask q.result) c.parted.result.side U.column c.parted.ensures.side)
+    (letter_told bs cs a.m U.paired U.empty v.l (mask q.result) h q.ensures c.parity.result true c.parity.ensures c.if-parity.true) v.invariant.1)
 
 pub loop-l-preserved : goal.loop-l-preserved
 loop-l-preserved c =
@@ -46,9 +46,11 @@ loop-l-preserved c =
     let U = c.requires.1 in
     let v = c.loop-l in
     let q = c.times_pair-z in
-    let h = c.loop-l-test.true in
-    (v.invariant.0, rw add-one (up_to {Q = λ x. accepts (automaton_of bs) (x ∷ []) ⊕ accepts (automaton_of cs) (x ∷ []) ≡ false} v.l v.invariant.1 (letter_tried bs cs a.m U.paired U.empty v.l (mask q.result) h q.ensures
-        (letter_told bs cs a.m U.paired U.empty v.l (mask q.result) h q.ensures c.parity.result false c.parity.ensures c.if-parity.false))))
+    let h = c.loop-l-test.true in (
+      v.invariant.0,
+      rw add-one (up_to {Q = λ x. accepts (automaton_of bs) (x ∷ []) ⊕ accepts (automaton_of cs) (x ∷ []) ≡ false} v.l v.invariant.1 (letter_tried bs cs a.m U.paired U.empty v.l (mask q.result) h q.ensures
+          (letter_told bs cs a.m U.paired U.empty v.l (mask q.result) h q.ensures c.parity.result false c.parity.ensures c.if-parity.false))),
+    )
 
 pub returns : goal.returns
 returns c =

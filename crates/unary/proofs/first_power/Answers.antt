@@ -32,7 +32,7 @@ returns-then-parity c =
     let l = c.link in
     let R = begun (goal.at.returns-then-parity c).Start in
     rw c.parted.ensures.row (powers_found bs cs m U.paired c.requires.1 a.w.now 0 (mask m.initial) R c.requires.0 (mask q.result) q.ensures l.new.w l.ensures
-        c.parted.result.side (side_told bs U.paired.first (mask a.g) (mask q.result) c.parted.result.side U.column c.parted.ensures.side) (powers_told bs cs m U.paired c.requires.1 a.w.now 0 (mask m.initial) R c.requires.0 (mask q.result) q.ensures l.new.w l.ensures c.parity.result true c.parity.ensures c.if-parity.true))
+    c.parted.result.side (side_told bs U.paired.first (mask a.g) (mask q.result) c.parted.result.side U.column c.parted.ensures.side) (powers_told bs cs m U.paired c.requires.1 a.w.now 0 (mask m.initial) R c.requires.0 (mask q.result) q.ensures l.new.w l.ensures c.parity.result true c.parity.ensures c.if-parity.true))
 
 -- Just one letter tells them not apart.
 one : (c : Else-parity) → Powers c.args.first.now c.args.second.now c.args.w.now 0 (mask c.args.m.initial) → Powers c.args.first.now c.args.second.now c.link.new.w 1 (mask c.times_pair-z.result)

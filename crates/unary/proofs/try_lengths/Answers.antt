@@ -53,7 +53,7 @@ returns-then-parity g c =
     let e = made g (goal.at.returns-then-parity g c).After-times-y in
     let R = v.invariant.1.powers in
     rw c.parted.ensures.row (powers_found bs cs m U.paired c.requires.0 v.w v.k (mask v.t.row) R h y e l.new.w l.ensures
-        c.parted.result.side (side_told bs U.paired.first (mask a.g) y c.parted.result.side U.column c.parted.ensures.side) (powers_told bs cs m U.paired c.requires.0 v.w v.k (mask v.t.row) R h y e l.new.w l.ensures c.parity.result true c.parity.ensures c.if-parity.true))
+    c.parted.result.side (side_told bs U.paired.first (mask a.g) y c.parted.result.side U.column c.parted.ensures.side) (powers_told bs cs m U.paired c.requires.0 v.w v.k (mask v.t.row) R h y e l.new.w l.ensures c.parity.result true c.parity.ensures c.if-parity.true))
 
 pub loop-k-preserved : goal.loop-k-preserved
 loop-k-preserved g c =
