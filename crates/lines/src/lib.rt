@@ -12,10 +12,10 @@ use verdict::Side;
 
 // A line into a lent buffer, or refusal 12.
 #[tactic(auto, using(record::proofs::Outcome::fit_short, record::proofs::Outcome::fit_done))]
-pub fn give(line: &Line, out: &mut [u8]) -> Result<usize, Refusal>
+pub fn give<const N: usize>(line: &Line<N>, out: &mut [u8]) -> Result<usize, Refusal>
     ensures answer { result ≡ answer_of (fit (length out.old) line.now) }
     ensures buffer { out.new ≡ buffer_of (fit (length out.old) line.now) out.old }
-    ensures room { length line.now ≤ longest }
+    ensures room { length line.now ≤ N }
 {
     let bytes = line.bytes();
     let n = bytes.len();
@@ -28,8 +28,8 @@ pub fn give(line: &Line, out: &mut [u8]) -> Result<usize, Refusal>
 
 // How the line of a record starts: its index, words, and a number.
 #[tactic(auto, using(text::proofs::Decimal::decimal_length), unfolding(crate::specs::Lines::opening))]
-fn begin(index: usize, words: &[u8], n: usize) -> Line
-    requires { length words.now ≤ 120 }
+fn begin<const N: usize>(index: usize, words: &[u8], n: usize) -> Line<N>
+    requires { 40 + length words.now ≤ N }
     ensures text { result ≡ opening index words.now n }
     ensures len { length result ≤ 40 + length words.now }
 {
@@ -42,7 +42,8 @@ fn begin(index: usize, words: &[u8], n: usize) -> Line
 
 // A refusal's line.
 #[tactic(auto, using(text::proofs::Decimal::decimal_length, std::proofs::Common::append_assoc), unfolding(crate::specs::Lines::refused_line))]
-pub fn refused_line(index: usize, number: usize, place: usize) -> Line
+pub fn refused_line<const N: usize>(index: usize, number: usize, place: usize) -> Line<N>
+    requires { longest ≤ N }
     ensures { result ≡ refused_line index number place }
 {
     let mut line = begin(index, b" refused ", number);
@@ -54,8 +55,8 @@ pub fn refused_line(index: usize, number: usize, place: usize) -> Line
 
 // A line that says no more than a dimension.
 #[tactic(auto, unfolding(crate::specs::Lines::dim_line))]
-pub fn dim_line(index: usize, words: &[u8], d: usize) -> Line
-    requires { length words.now < 120 }
+pub fn dim_line<const N: usize>(index: usize, words: &[u8], d: usize) -> Line<N>
+    requires { 41 + length words.now ≤ N }
     ensures { result ≡ dim_line index words.now d }
 {
     let mut line = begin(index, words, d);
@@ -76,8 +77,8 @@ fn accepted_by(side: Side) -> &'static [u8]
 
 // The line of an answer whose words are not the key's.
 #[tactic(auto, using(crate::proofs::Building::word_short, std::proofs::Common::append_assoc), unfolding(crate::specs::Lines::differ_line))]
-pub fn differ_line(index: usize, d: usize, word: &[u8], side: Side) -> Line
-    requires { Over 10 word.now × (length word.now < 64) }
+pub fn differ_line<const N: usize>(index: usize, d: usize, word: &[u8], side: Side) -> Line<N>
+    requires { Over 10 word.now × (length word.now < 64) × (longest ≤ N) }
     ensures { result ≡ differ_line index d word.now side }
 {
     let mut line = begin(index, b" differ dim ", d);

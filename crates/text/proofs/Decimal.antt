@@ -101,7 +101,7 @@ decimal_front =
     (rest (omega arith)))
 
 -- They are those that the library prints.
-decimal_printed : (n : ℕ) → n < 2 ^ 64 → decimal n ≡ printed n
+pub decimal_printed : (n : ℕ) → n < 2 ^ 64 → decimal n ≡ printed n
 unfolding decimal
 decimal_printed n h = decimal_from_appends figures (record { one = figures_one; more = figures_more }) (suc n) n h (rw add-one at (length-decimal-le_succ n h))
 

@@ -4,7 +4,7 @@ use Rattle.text.specs.Text.{digit}
 use Rattle.text.proofs.Line.push_word.Given as goal
 
 abbrev pub invariant-loop-letter : goal.invariant-loop-letter
-invariant-loop-letter l = record {
+invariant-loop-letter g l = record {
   text : l.self ≡ l.initial.self ++ map digit (take l.letter-index l.word);
   len : length l.self ≡ length l.initial.self + l.letter-index;
 }
