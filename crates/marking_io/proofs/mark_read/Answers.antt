@@ -8,4 +8,4 @@ pub slice_bounds-mark_into-end : goal.slice_bounds-mark_into-end
 slice_bounds-mark_into-end g c = zeros _
 
 pub mark_into-requires : goal.mark_into-requires
-mark_into-requires g c = (subst (λ m. text_room ≤ m) (zeros _) (omega arith), c.requires)
+mark_into-requires g c = (subst (λ m. text_room ≤ m) (zeros 699360) (omega arith), c.requires)
