@@ -14,6 +14,9 @@ use text::Line;
 
 const MAX_SCRIPT: usize = 65536;
 
+// The bytes that a line has room for: no line has more.
+const LONGEST: usize = 160;
+
 // The dimension of a well-formed record's language.
 fn dimension(bytes: &[u8]) -> usize
     requires { WellFormed bytes.now }
@@ -25,7 +28,7 @@ fn dimension(bytes: &[u8]) -> usize
 }
 
 // The line of a record that is refused, as that of an index.
-fn fault_line(index: usize, fault: Fault) -> Line
+fn fault_line(index: usize, fault: Fault) -> Line<LONGEST>
     ensures { result ≡ fault_line index fault }
 {
     lines::refused_line(index, fault.rule.number(), fault.place)
@@ -33,7 +36,7 @@ fn fault_line(index: usize, fault: Fault) -> Line
 
 // The line of the key.
 #[tactic(auto, unfolding(crate::specs::Marking::key_record_line))]
-fn key_line(key: &[u8]) -> Line
+fn key_line(key: &[u8]) -> Line<LONGEST>
     ensures { result ≡ key_record_line key.now }
 {
     match record::check(key) {
@@ -47,7 +50,7 @@ fn key_line(key: &[u8]) -> Line
 
 // The line of an answer: the verdict of the comparison with the key, and the answer's own dimension. An answer of a script has bytes, so it
 // is no blank.
-fn answer_line(index: usize, key: &[u8], answer: &[u8]) -> Line
+fn answer_line(index: usize, key: &[u8], answer: &[u8]) -> Line<LONGEST>
     requires { 0 < length answer.now }
     ensures { result ≡ answer_line index key.now answer.now }
 {
@@ -67,7 +70,7 @@ fn answer_line(index: usize, key: &[u8], answer: &[u8]) -> Line
 
 // The line of a record that stands whole, as that of an index: the key has index 0.
 #[tactic(auto, unfolding(crate::specs::Marking::record_line, crate::specs::Marking::key_of))]
-fn record_line(script: &[u8], index: usize, bytes: &[u8]) -> Line
+fn record_line(script: &[u8], index: usize, bytes: &[u8]) -> Line<LONGEST>
     requires { 0 < length bytes.now }
     ensures { result ≡ record_line script.now index bytes.now }
 {
@@ -79,7 +82,7 @@ fn record_line(script: &[u8], index: usize, bytes: &[u8]) -> Line
 }
 
 // The line of what stands at a position, as the record of an index: none with 0 bytes left.
-fn part_line(script: &[u8], index: usize, at: usize) -> Line
+fn part_line(script: &[u8], index: usize, at: usize) -> Line<LONGEST>
     ensures { result ≡ part_line script.now index (part_at script.now at) }
 {
     match script::part_at(script, at) {
@@ -91,7 +94,7 @@ fn part_line(script: &[u8], index: usize, at: usize) -> Line
 
 // The same, but one line in place of all for a script that is too long.
 #[tactic(auto, unfolding(crate::specs::Marking::line_at))]
-fn script_line(script: &[u8], index: usize, at: usize) -> Line
+fn script_line(script: &[u8], index: usize, at: usize) -> Line<LONGEST>
     ensures { result ≡ line_at script.now index at }
 {
     if MAX_SCRIPT < script.len() {

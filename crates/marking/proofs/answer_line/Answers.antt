@@ -64,7 +64,7 @@ differ_line-requires c =
     let f = found i in
     let w = is_word i in
     let small = (good_check _ (both_passed _ _ f.difference.both).0).front.letters in
-    (subst (Over 10) (sym w) (over_more (omega arith) f.difference.word f.difference.first.over), omega (arith, ap length w, f.difference.short.0))
+    (omega arith, (subst (Over 10) (sym w) (over_more (omega arith) f.difference.word f.difference.first.over), omega (arith, ap length w, f.difference.short.0), omega arith))
 
 pub returns-in-Ok-None : goal.returns-in-Ok-None
 returns-in-Ok-None c =
