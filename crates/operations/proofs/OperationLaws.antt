@@ -4,7 +4,11 @@ use mathlib.Core.List.{List, []}
 use Prim.Native.Nat.{ℕ}
 use lib.ListN.{length}
 use Rattle.automata.specs.Automaton.{Automaton, accepts}
-use Rattle.automata.specs.Language.{Language}
+use Rattle.automata.specs.Language.{Language, symmetric_difference}
+use Rattle.automata.specs.Cuts.{concatenation}
+use Rattle.automata.specs.Operations.{sum_of, concatenation_of}
+use Rattle.automata.proofs.Operations.{accepts_sum}
+use Rattle.automata.proofs.ConcatenationOf.{accepts_concatenation}
 use Rattle.record.specs.Record.{letters_of, check_of, WellFormed, automaton_of}
 use Rattle.record.specs.Outcome.{Outcome, refused, checked}
 use Rattle.std.specs.Prelude.{Err}
@@ -34,6 +38,10 @@ module _ (op : Language → Language → Language) (make : Automaton → Automat
       service_of (letters_of bs) (op (accepts (automaton_of bs)) (accepts (automaton_of cs))) (make (automaton_of bs) (automaton_of cs))
       (λ w ow. sym (accepted (automaton_of bs) (automaton_of cs) w)) (Operands bs cs) (λ p. sizes bs p.0) buf
       (after_pair (pair_of bs cs) (result (length buf))) (pair_passed bs cs (result (length buf))) (pair_wrote bs cs (result (length buf))) (unnamed_pair bs cs (result (length buf)) Dimension)
+
+-- The automata of sum and product accept the words of the operation.
+pub binary_words_lem : (A B : Automaton) (w : List ℕ) → (symmetric_difference (accepts A) (accepts B) w ≡ accepts (sum_of A B) w) × (concatenation (accepts A) (accepts B) w ≡ accepts (concatenation_of A B) w)
+binary_words_lem A B w = (sym (accepts_sum A B w), sym (accepts_concatenation A B w))
 
 -- For a blank the answer and the buffer are those for the record of 15 bytes that it stands for.
 pub sum_blank : (buf bs : List ℕ) → SameFor sum_outcome buf bs [] (blank_of (letters_of bs))

@@ -73,7 +73,7 @@ NumberIn ns r = Member r.number ns
 
 -- ---- the answer behind a reply
 
--- No other numbers come.
+-- The rule of a number. No other numbers come (`NumberIn`): of those it says the last rule.
 abbrev pub rule_of : ℕ → Rule
 rule_of n =
     cond (eqb n 1) TooShort
