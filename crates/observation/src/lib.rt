@@ -17,7 +17,7 @@ fn explore_row(x: Source, b: &mut Basis, s: Size, k: usize) -> Size
     requires { FoundBy x b.old s × (k < s.count) }
     ensures { ExpandedBy x.entry b.old s.count k b.new result }
 {
-    let y = reduction::multiply(x, b, k);
+    let y = reduction::multiply(x.table, x.machine.letters, b, k);
     let mut r = s;
     for l in 0..x.machine.letters {
         let z = kernels::pick(&y, l);

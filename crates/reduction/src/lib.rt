@@ -3,7 +3,7 @@
 
 ghost use Rattle.std.specs.Prelude.{◌≡◌, ℕ, ◌+◌, ◌^◌, ◌≤◌, ◌<◌};
 ghost use Rattle.rows.specs.Row.{width, mask};
-ghost use Rattle.rows.specs.Table.{at};
+ghost use Rattle.rows.specs.Table.{blocks, at};
 ghost use Rattle.basis.specs.Basis.{cell};
 ghost use Rattle.kernels.specs.Products.{Products};
 ghost use Rattle.reduction.specs.Tables.{Coefficients, Column, ReducesUpTo};
@@ -14,18 +14,18 @@ use kernels::Line;
 use lookup::Lookup;
 use rows::{Machine, Row, Source, Table};
 
-// The products of row k of the basis with every letter, in a line. Over one letter there is no matrix beside the first.
-pub fn multiply(x: Source, b: &Basis, k: usize) -> Line
-    requires { k < width }
-    ensures { (n : ℕ) → cell width b.now 1 k < 2 ^ n → Products x.entry.machine.letters n (cell width b.now 1 k) (at x.entry.table.now) result }
+// The products of row k of the basis with the first a letters, in a line. Over one letter there is no matrix beside the first.
+pub fn multiply(t: &Table, a: usize, b: &Basis, k: usize) -> Line
+    requires { (a ≤ blocks) × (k < width) }
+    ensures { (n : ℕ) → cell width b.now 1 k < 2 ^ n → Products a n (cell width b.now 1 k) (at t.now) result }
 {
     let row = basis::get(b, WIDEST, 1, k);
     let mut y = [0u64; 8];
-    if x.machine.letters == 1 {
-        kernels::put(&mut y, 0, rows::times(x.table, 0, row));
+    if a == 1 {
+        kernels::put(&mut y, 0, rows::times(t, 0, row));
         return y;
     }
-    kernels::times_all(x.table, x.machine.letters, row, &mut y);
+    kernels::times_all(t, a, row, &mut y);
     y
 }
 
@@ -62,7 +62,12 @@ impl<'a> Reduction<'a> {
         requires { Before self.old k 0 × (k < self.old.size.count) }
         ensures { Before self.new (k + 1) 0 × Follows self.old self.new }
     {
-        let y = multiply(self.source, self.basis, k);
+        let y = multiply(
+            self.source.table,
+            self.source.machine.letters,
+            self.basis,
+            k,
+        );
         for l in 0..self.source.machine.letters {
             let z = kernels::pick(&y, l);
             self.step(z, k, l);
@@ -75,7 +80,12 @@ impl<'a> Reduction<'a> {
         requires { Before self.old k 0 × (k < self.old.size.count) × (self.old.size.count ≡ self.old.source.machine.states) × Coefficients tab.now.groups (mask self.old.size.pivots) self.old.basis.now tab.now.entries }
         ensures { Before self.new (k + 1) 0 × Filled self.old self.new }
     {
-        let y = multiply(self.source, self.basis, k);
+        let y = multiply(
+            self.source.table,
+            self.source.machine.letters,
+            self.basis,
+            k,
+        );
         for l in 0..self.source.machine.letters {
             let z = kernels::pick(&y, l);
             let c = tab.times(z);

@@ -13,7 +13,7 @@ use Rattle.observation.proofs.explore_row.Goals.{After-pick-z}
 use Rattle.observation.proofs.explore_row.Goals as goal
 
 pub multiply-y-requires : goal.multiply-y-requires
-multiply-y-requires c = omega (arith, found_bound _ _ _ _ _ c.args.x.valid _ _ _ _ c.requires.0, c.requires.1)
+multiply-y-requires c = (c.args.x.valid.letters, omega (arith, found_bound _ _ _ _ _ c.args.x.valid _ _ _ _ c.requires.0, c.requires.1))
 
 -- The product in the line is that of row k, which stays.
 product_is : (c : After-pick-z) → mask c.pick-z.result ≡ product c.args.x.machine.states (cell width c.loop-l.b 1 c.args.k) (at c.args.x.table.now c.loop-l.l)

@@ -5,7 +5,9 @@ use Rattle.reduction.proofs.TableSearch.{count_bound, found_low, searching_next}
 use Rattle.reduction.proofs.Reduction.expand.Goals as goal
 
 pub multiply-y-requires : goal.multiply-y-requires
-multiply-y-requires c = omega (arith, count_bound _ _ _ _ _ _ c.requires.0.search.basis, c.args.self.now.source.valid.states, c.requires.1)
+multiply-y-requires c =
+    let V = c.args.self.now.source.valid in
+    (V.letters, omega (arith, count_bound _ _ _ _ _ _ c.requires.0.search.basis, V.states, c.requires.1))
 
 pub step-requires : goal.step-requires
 step-requires c =
