@@ -31,6 +31,15 @@ upto_put {l} {n} {s' = s'} M m z made p u = (p.size ∙ u.0, λ i h. go i h (dec
     go i h (yes g) = p.lower i g ∙ u.1 i g
     go i h (no g) = subst (λ j. get_or s' j 0 ≡ product m z (M j)) (omega arith) (p.rows (i - l) (omega arith) ∙ made (i - l) (omega arith))
 
+-- The product of letter l, put at its place.
+pub upto_step : (l k : ℕ) (M : ℕ → ℕ → ℕ) (n x : ℕ) (s : List ℕ) {s' : List ℕ} {v : ℕ} → k ≡ l + 1 → l < blocks → v ≡ product n x (M l) → s' ≡ set s l v → Upto l M n x s → Upto k M n x s'
+upto_step l k M n x s {v = v} c h e g u = rw (g, c, add-one) (
+  length-set s l v ∙ u.0,
+  up_to {Q = λ i. get_or (set s l v) i 0 ≡ product n x (M i)} l
+      (λ i z. get_or-set_other s l i v 0 (omega arith) ∙ u.1 i z)
+      (get_or-set_same s l v 0 (omega (arith, u.0)) ∙ e),
+)
+
 -- ---- two lines merged
 
 -- The entries below l are those of s₀ and t side by side, the others are those of s₀.

@@ -80,7 +80,7 @@ fn put_rest(bytes: &[u8], l: usize, x: Row, s: &mut Line)
     ensures { Letters bytes.now (mask x) s.new }
 {
     match record::size(bytes[6]) - l {
-        1 => put_letters::<1>(bytes, l, x, s),
+        1 => kernels::put(s, l, times_one(bytes, l, x)),
         2 => put_letters::<2>(bytes, l, x, s),
         3 => put_letters::<3>(bytes, l, x, s),
         _ => {}
