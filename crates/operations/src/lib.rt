@@ -28,7 +28,7 @@ use rows::{Machine, Row, Table};
 
 // An operation on two records, by the words of the result and by an automaton for them with the states of both. Sum and product share the
 // checks, the limit and the writing.
-trait Binary {
+pub trait Binary {
     ghost words: { Language → Language → Language };
 
     ghost make: { Automaton → Automaton → Automaton };
@@ -45,7 +45,7 @@ trait Binary {
 }
 
 // An operation on one record, likewise.
-trait Unary {
+pub trait Unary {
     ghost words: { Language → Language };
 
     ghost make: { Automaton → Automaton };
@@ -91,7 +91,8 @@ fn all_words(t: &mut Table, a: usize, one: Row)
     }
 }
 
-struct SymmetricDifference;
+#[derive(Clone, Copy)]
+pub struct SymmetricDifference;
 
 impl Binary for SymmetricDifference {
     ghost words = { symmetric_difference };
@@ -107,7 +108,8 @@ impl Binary for SymmetricDifference {
     }
 }
 
-struct Concatenation;
+#[derive(Clone, Copy)]
+pub struct Concatenation;
 
 impl Binary for Concatenation {
     ghost words = { concatenation };
@@ -123,7 +125,8 @@ impl Binary for Concatenation {
     }
 }
 
-struct Complementation;
+#[derive(Clone, Copy)]
+pub struct Complementation;
 
 impl Unary for Complementation {
     ghost words = { complement };
@@ -150,7 +153,8 @@ impl Unary for Complementation {
     }
 }
 
-struct Reversal;
+#[derive(Clone, Copy)]
+pub struct Reversal;
 
 impl Unary for Reversal {
     ghost words = { reversal };
