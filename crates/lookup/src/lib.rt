@@ -12,7 +12,7 @@ use kernels::Line;
 use rows::Row;
 
 // The groups of 16 entries of a matrix: entry v of group g stands at g * 16 + v. The first `groups` are filled.
-#[derive(Drop)]
+#[derive(Clone, Copy)]
 pub struct Lookup {
     pub entries: [u64; 256],
     pub groups: usize,
@@ -30,7 +30,7 @@ fn double(tab: &mut [u64; 256], at: usize, h: usize, x: Row)
 }
 
 // Group g: its first entry takes no row, and each of its four rows doubles what stands there. row(i) is row i of the matrix.
-fn put_group<F: Fn(usize) -> Row>(tab: &mut [u64; 256], g: usize, row: &F)
+pub fn put_group<F: Fn(usize) -> Row>(tab: &mut [u64; 256], g: usize, row: &F)
     requires { (g < groups) × (length tab.old ≡ lookup_size) × ((i : ℕ) → i < 4 → F.pre row.now (g * 4 + i)) }
     ensures { (length tab.new ≡ lookup_size) × ((M : ℕ → ℕ) → Gives (F.post row.now) M → Grouped g M tab.old tab.new) }
 {

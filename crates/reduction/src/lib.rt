@@ -46,7 +46,7 @@ impl<'a> Reduction<'a> {
     ghost use Rattle.reduction.specs.Before.{Before, After, Product, Follows, Filled};
 
     // Row k times letter l, which is y, is placed in the basis; the rows that make it are kept.
-    fn step(&mut self, y: Row, k: usize, l: usize)
+    pub fn step(&mut self, y: Row, k: usize, l: usize)
         requires { Before self.old k l × (k < self.old.size.count) × (l < self.old.source.machine.letters) × Product self.old k l (mask y) }
         ensures { Before self.new k (l + 1) × Follows self.old self.new × (cell width self.new.basis.now 1 k ≡ cell width self.old.basis.now 1 k) }
     {
@@ -58,7 +58,7 @@ impl<'a> Reduction<'a> {
     }
 
     // Row k by every letter.
-    fn expand(&mut self, k: usize)
+    pub fn expand(&mut self, k: usize)
         requires { Before self.old k 0 × (k < self.old.size.count) }
         ensures { Before self.new (k + 1) 0 × Follows self.old self.new }
     {
@@ -107,7 +107,7 @@ impl<'a> Reduction<'a> {
 
     // Every row by every letter, first in, first out. As many rows as there are states are all that there are: if that is more than `most`,
     // the products to come are left.
-    fn search(&mut self, most: usize)
+    pub fn search(&mut self, most: usize)
         requires { Before self.old 0 0 }
         ensures { After self.new most × Follows self.old self.new × (self.old.size.count ≡ 0 → self.new.size.count ≡ 0) }
     {
@@ -132,7 +132,7 @@ impl<'a> Reduction<'a> {
 }
 
 // Which of the first d rows of the basis b share an odd number of bits with f.
-fn column(b: &Basis, n: usize, d: usize, f: Row) -> Row
+pub fn column(b: &Basis, n: usize, d: usize, f: Row) -> Row
     requires { (d ≤ width) × ((k : ℕ) → k < d → cell width b.now 1 k < 2 ^ n) }
     ensures { Column n b.now d (mask f) (mask result) × (mask result < 2 ^ d) }
 {
