@@ -11,12 +11,17 @@ use basis::{Basis, WIDEST};
 use elimination::Size;
 use rows::{Row, Source};
 
-// Row k of the basis by every letter.
+// Row k of the basis by every letter. Over one letter there is no line.
 // The loop is that of reduction's `expand`: with the step as a closure, what holds between two letters would have to be said of it.
 fn explore_row(x: Source, b: &mut Basis, s: Size, k: usize) -> Size
     requires { FoundBy x b.old s × (k < s.count) }
     ensures { ExpandedBy x.entry b.old s.count k b.new result }
 {
+    if x.machine.letters == 1 {
+        let row = basis::get(b, WIDEST, 1, k);
+        let z = rows::times(x.table, 0, row);
+        return elimination::insert(b, WIDEST, x.machine.states, s, z);
+    }
     let y = reduction::multiply(x.table, x.machine.letters, b, k);
     let mut r = s;
     for l in 0..x.machine.letters {

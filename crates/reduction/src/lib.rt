@@ -14,17 +14,13 @@ use kernels::Line;
 use lookup::Lookup;
 use rows::{Machine, Row, Source, Table};
 
-// The products of row k of the basis with the first a letters, in a line. Over one letter there is no matrix beside the first.
+// The products of row k of the basis with the first a letters, in a line.
 pub fn multiply(t: &Table, a: usize, b: &Basis, k: usize) -> Line
     requires { (a ≤ blocks) × (k < width) }
     ensures { (n : ℕ) → cell width b.now 1 k < 2 ^ n → Products a n (cell width b.now 1 k) (at t.now) result }
 {
     let row = basis::get(b, WIDEST, 1, k);
     let mut y = [0u64; 8];
-    if a == 1 {
-        kernels::put(&mut y, 0, rows::times(t, 0, row));
-        return y;
-    }
     kernels::times_all(t, a, row, &mut y);
     y
 }
@@ -57,11 +53,17 @@ impl<'a> Reduction<'a> {
         self.size = q.size;
     }
 
-    // Row k by every letter.
+    // Row k by every letter. Over one letter there is no line.
     pub fn expand(&mut self, k: usize)
         requires { Before self.old k 0 × (k < self.old.size.count) }
         ensures { Before self.new (k + 1) 0 × Follows self.old self.new }
     {
+        if self.source.machine.letters == 1 {
+            let row = basis::get(self.basis, WIDEST, 1, k);
+            let z = rows::times(self.source.table, 0, row);
+            self.step(z, k, 0);
+            return;
+        }
         let y = multiply(
             self.source.table,
             self.source.machine.letters,
