@@ -9,7 +9,6 @@ ghost use Rattle.compare.specs.Compare.{compare_outcome, compare_answer, Compare
 
 use operands::BLANK;
 use record::{Refusal, Rule};
-
 pub use verdict::Side;
 
 // What two records differ in: the letters of the first word that just one accepts, and the one that accepts it.
