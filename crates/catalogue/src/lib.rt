@@ -26,7 +26,8 @@ struct Entry {
 }
 
 // No word, all words, the empty word only, words ending in 1, language X, lengths that leave 0, 1, 2 or 4 on division by 7.
-const ENTRIES: [Entry; 6] = [
+// For speed no constant, which each use would build anew.
+static ENTRIES: [Entry; 6] = [
     Entry {
         states: 0,
         letters: 2,

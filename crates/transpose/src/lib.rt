@@ -112,6 +112,10 @@ pub fn transpose(t: &mut Table, a: usize, n: usize)
     requires { (a ≤ blocks) × (n ≤ width) × ((l i : ℕ) → l < a → i < n → at t.old l i < 2 ^ n) }
     ensures { Transposed a n t.old t.new }
 {
+    // For speed: a matrix of no row would have one cleared, as 2 ^ w is 1 or more.
+    if n == 0 {
+        return;
+    }
     let w = level(n);
     for l in 0..a {
         clear(t, l, n, power(w));
